@@ -12,6 +12,7 @@ use Rattle.target_core.specs.declared.target.Target.{Target}
 use Rattle.policy_rules.specs.Resolved.{Resolved}
 use Rattle.sched_defs.specs.Events.{Event}
 use Rattle.sched_defs.specs.Pace.{Pace, Link}
+use Rattle.sched_defs.specs.declared.rate.LinkRate.{LinkRate}
 use Rattle.sched_core.specs.Spills.{raised}
 use Rattle.sched_embedded.specs.Fabrics.{FabricRun, run_of, Leaves, LeavesPart, HoldsAfter}
 use Rattle.sched_embedded.specs.Laid.{Laid}
@@ -70,11 +71,11 @@ laid policy l pace capture watching a is = subst HasRun (sym is) (record {
       (record { policy = policy.policy; laid = l; events = w.0 }, ap (run_of policy.policy l) w.1);
 })
 
-forward_file : (policy : Resolved) (rate type : ℕ) (file : FileContents) → status_code (forward_status (forward_over policy rate type file).ending) ≡ 0 → (events : List Event) × ((forward_over policy rate type file).events ≡ Some events)
+forward_file : (policy : Resolved) (rate : LinkRate) (type : ℕ) (file : FileContents) → status_code (forward_status (forward_over policy rate type file).ending) ≡ 0 → (events : List Event) × ((forward_over policy rate type file).events ≡ Some events)
 forward_file policy rate type (no_capture fault) e = absurd (omega (arith, e))
 forward_file policy rate type (holds contents) e = (_, refl)
 
-sent : (policy : Resolved) (l : Laid) (rate : ℕ) (capture : List ℕ) (a : Answer) → a ≡ forward_run policy l rate capture → HasRun a
+sent : (policy : Resolved) (l : Laid) (rate : LinkRate) (capture : List ℕ) (a : Answer) → a ≡ forward_run policy l rate capture → HasRun a
 sent policy l rate capture a is = subst HasRun (sym is) (record {
   there = λ e.
       let w = forward_file policy rate (link_in (in_file capture)) (one_link_in (in_file capture)) e in

@@ -2,6 +2,7 @@
 ghost use Rattle.std.specs.Prelude.{◌≡◌, ◌+◌, ◌<◌, ◌^◌, ◌↔◌, IsTrue, max};
 ghost use Rattle.sched_defs.specs.SendTime.{send_time, IsRate};
 
+use sched_defs::LinkRate;
 use std::marker::Model;
 
 /// Nanoseconds per second.
@@ -10,13 +11,16 @@ const SECOND: u64 = 1_000_000_000;
 /// The maximum rate, in bytes per second. The minimum is 1.
 pub const MOST_RATE: u64 = 1_000_000_000_000;
 
-/// Returns the nanoseconds that a packet of `len` bytes takes at a rate in bytes per second,
-/// rounded up.
-pub fn send_time(len: u32, rate: u64) -> u64
+/// The maximum overhead of a packet, in bytes.
+pub const MOST_OVERHEAD: u32 = 65_535;
+
+/// Returns the nanoseconds that a packet of `len` bytes and the overhead take on a link, rounded
+/// up.
+pub fn send_time(len: u32, rate: LinkRate) -> u64
     requires { IsRate rate }
     ensures { result ≡ send_time len rate }
 {
-    (len as u64 * SECOND).div_ceil(rate)
+    ((len as u64 + rate.overhead as u64) * SECOND).div_ceil(rate.bytes)
 }
 
 /// A link that sends one packet after another. Contracts see it as the timestamp from which it is
@@ -63,7 +67,7 @@ impl Link {
     }
 
     /// Sends a packet of `len` bytes, and returns its start in nanoseconds.
-    pub fn send(&mut self, len: u32, rate: u64) -> u128
+    pub fn send(&mut self, len: u32, rate: LinkRate) -> u128
         requires early { self.old < 2 ^ 126 }
         requires rate { IsRate rate }
         ensures start { result ≡ self.old }

@@ -9,6 +9,7 @@ use Rattle.sched_defs.specs.Events.{Event, Arrive, Depart, outcomes, empty_in}
 use Rattle.sched_defs.specs.Faults.{FaultAt}
 use Rattle.sched_defs.specs.Link.{Sent, link_turn, link_course}
 use Rattle.sched_defs.specs.Packets.{Captured}
+use Rattle.sched_defs.specs.declared.rate.LinkRate.{LinkRate}
 use Rattle.sched_defs.proofs.Links.{sending, turn_leads, turn_empty}
 use Rattle.sched_defs.proofs.Runs.{outcomes-append, empty_in-append}
 use Rattle.forward_defs.specs.Sendings.{is_late, up_to_late, has_late}
@@ -16,7 +17,7 @@ use Rattle.forward_defs.specs.Keeping.{Keeping, kept_behind}
 use Rattle.forward_defs.proofs.LateOutcomes.{none_empty_in_front, told_late, stops_at_late, none_is_late}
 
 -- each departure on a link finds a packet
-pub link_finds : (policy : Policy) (rate : ℕ) (packets : List Packet) (fault : Option FaultAt) (s : SourceState) (free : ℕ) → empty_in (outcomes policy (link_course policy rate packets fault s free).events s) ≡ 0
+pub link_finds : (policy : Policy) (rate : LinkRate) (packets : List Packet) (fault : Option FaultAt) (s : SourceState) (free : ℕ) → empty_in (outcomes policy (link_course policy rate packets fault s free).events s) ≡ 0
 link_finds policy rate [] None s free = (sending policy rate None (size s.tree) s free).empty
 link_finds policy rate [] (Some fault) s free = refl
 link_finds policy rate (p ∷ packets) fault s free =
@@ -59,7 +60,7 @@ first_early (Arrive p ∷ before) last others none few =
 first_early (Depart start ∷ before) last others none few =
     behind_early (is_late start) start before last ((before ++ last) ++ others) none (λ early. first_early before last others early few)
 
-module _ (policy : Policy) (rate : ℕ) (packets : List Packet) (fault : Option FaultAt) (s : SourceState) (free : ℕ) (captured : Captured) (k : Keeping) (on_time : k.late ≡ false) where
+module _ (policy : Policy) (rate : LinkRate) (packets : List Packet) (fault : Option FaultAt) (s : SourceState) (free : ℕ) (captured : Captured) (k : Keeping) (on_time : k.late ≡ false) where
   abbrev all : List Event
   all = (link_course policy rate packets fault s free).events
 

@@ -13,6 +13,7 @@ use Rattle.sched_defs.specs.Events.{Event, Outcome, outcomes}
 use Rattle.sched_defs.specs.Numbered.{CanBeSent}
 use Rattle.sched_defs.specs.Link.{link_course}
 use Rattle.sched_defs.specs.Packets.{Captured}
+use Rattle.sched_defs.specs.declared.rate.LinkRate.{LinkRate}
 use Rattle.forward_defs.specs.Sendings.{Sending, sendings, up_to_late, has_late}
 use Rattle.forward_defs.specs.Forwarded.{sent_packet, forward_bytes}
 use Rattle.forward_defs.specs.SingleLinkType.{of_one_link}
@@ -44,7 +45,7 @@ pub record LateEndsRuns : Type 0 where
 -- first late one
 abbrev pub ForwardedRunsAreReadBack : Type 0
 ForwardedRunsAreReadBack =
-    (policy : Policy) (rate link : ℕ) (packets : List Packet) (fault : Option FaultAt) (captured : Captured) → IsAccepted policy → link < 2 ^ 16
+    (policy : Policy) (rate : LinkRate) (link : ℕ) (packets : List Packet) (fault : Option FaultAt) (captured : Captured) → IsAccepted policy → link < 2 ^ 16
     → CanBeSent policy 1 packets (start policy) → length packets ≤ most_records → ((n : ℕ) → length (captured n) ≤ most_captured)
     → let os = outcomes policy (up_to_late (link_course policy rate packets fault (start policy) 0).events) (start policy) in
     in_file (forward_bytes link captured os) ≡ holds_sendings link captured (sendings os)

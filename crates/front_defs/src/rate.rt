@@ -3,7 +3,7 @@ ghost use Rattle.std.specs.Prelude.{◌≡◌, ◌+◌, ◌*◌, ◌^◌, ◌<�
 ghost use Rattle.std.specs.List.{prefix_len};
 ghost use Rattle.text_core.specs.Tokens.{is_digit};
 ghost use Rattle.text_core.specs.Decimals.{number_of};
-ghost use Rattle.sched_defs.specs.SendTime.{IsRate};
+ghost use Rattle.sched_defs.specs.SendTime.{IsByteRate};
 ghost use Rattle.front_defs.specs.Rates.{most_whole, most_digits, rate_written, whole_bytes, rate_by, rate_of_digits, rate_in};
 
 use crate::unit::{Unit, unit_of};
@@ -47,7 +47,7 @@ fn digits(bytes: &[u8]) -> usize
 fn whole_bytes(count: u128, parts: u128) -> Result<u64, RateFault>
     requires { 1 ≤ parts }
     ensures value { result ≡ whole_bytes count parts }
-    ensures range { IfOk result IsRate }
+    ensures range { IfOk result IsByteRate }
 {
     if count % parts != 0 {
         return Err(RateFault::NotExact);
@@ -67,7 +67,7 @@ fn rate_by(whole: u64, part: u64, places: usize, unit: Unit) -> Result<u64, Rate
     requires scale { (1 ≤ unit.scale) × (unit.scale ≤ 10 ^ 12) }
     requires parts { (1 ≤ unit.parts) × (unit.parts ≤ 8) }
     ensures value { result ≡ rate_by whole part places unit }
-    ensures range { IfOk result IsRate }
+    ensures range { IfOk result IsByteRate }
 {
     let power = 10u128.pow(places as u32);
     let number = whole as u128 * power + part as u128;
@@ -81,7 +81,7 @@ fn rate_of_digits(whole: &[u8], part: &[u8], unit: Unit) -> Result<u64, RateFaul
     requires parts { (1 ≤ unit.parts) × (unit.parts ≤ 8) }
     ensures value { result ≡ rate_of_digits (number_of whole.now) (number_of part.now)
         (length part.now) unit }
-    ensures range { IfOk result IsRate }
+    ensures range { IfOk result IsByteRate }
 {
     let (Some(number), Some(fraction)) = (decimal(whole), decimal(part)) else {
         return Err(RateFault::NoNumber);
@@ -100,7 +100,7 @@ fn rate_written(whole: &[u8], part: &[u8], unit: &[u8]) -> Result<u64, RateFault
       unit =
           unit.now;
     }) }
-    ensures range { IfOk result IsRate }
+    ensures range { IfOk result IsByteRate }
 {
     if part.len() > MOST_DIGITS {
         return Err(RateFault::TooFine);
@@ -114,7 +114,7 @@ fn rate_written(whole: &[u8], part: &[u8], unit: &[u8]) -> Result<u64, RateFault
 /// Parses a rate and returns it in bytes per second, without rounding.
 pub fn rate_in(word: &[u8]) -> Result<u64, RateFault>
     ensures value { result ≡ rate_in word.now }
-    ensures range { IfOk result IsRate }
+    ensures range { IfOk result IsByteRate }
 {
     let (whole, rest) = word.split_at(digits(word));
     match rest {

@@ -16,8 +16,9 @@ use Rattle.replay_app.specs.Answer.{Answer, IsTold, HoldsRun, IsLeft}
 use Rattle.replay_app.specs.Output.{forward_run}
 use Rattle.replay_app.specs.Statuses.{status_code, forward_status}
 use Rattle.replay_app.proofs.FollowLaws.{exactly_told}
+use Rattle.sched_defs.specs.declared.rate.LinkRate.{LinkRate}
 
-module _ (policy : Resolved) (laid : Laid) (rate : ℕ) where
+module _ (policy : Resolved) (laid : Laid) (rate : LinkRate) where
   abbrev answer : List ℕ → Answer
   answer file = forward_run policy laid rate file
 

@@ -15,6 +15,7 @@ use Rattle.replay_app.specs.Statuses.{status_code}
 use Rattle.replay_app.specs.declared.status.Status.{Status}
 use Rattle.outside_core.specs.declared.stop.Stop.{Stop}
 use Rattle.policy_rules.specs.Resolved.{Resolved}
+use Rattle.sched_defs.specs.SendTime.{plain_rate}
 use Rattle.sched_defs.specs.Pace.{Link}
 use Rattle.sched_embedded.specs.Laid.{Laid}
 use Rattle.tap_core.specs.Lists.{Entry}
@@ -49,8 +50,8 @@ one-paced : (watching : List Entry) (policy : Resolved) (laid : Laid) (pacing : 
     → IsPaced watching policy laid pacing capture contents a → IsPaced watching policy laid pacing capture contents b → a ≡ b
 one-paced watching policy laid (script e named) capture contents =
     one-follows kind.Script _ _ _ (scripts_are_one (contents e)) (λ steps. same-answer (laid_run policy laid (script_pace steps) capture watching))
-one-paced watching policy laid (link rate) capture contents = same-answer (laid_run policy laid (Link rate) capture watching)
-one-paced watching policy laid (forward rate) capture contents = same-answer (forward_run policy laid rate capture)
+one-paced watching policy laid (link rate) capture contents = same-answer (laid_run policy laid (Link (plain_rate rate)) capture watching)
+one-paced watching policy laid (forward rate) capture contents = same-answer (forward_run policy laid (plain_rate rate) capture)
 
 pub one-answer : HaveOneAnswer
 one-answer (replay p t c pacing) contents taps a b x y =

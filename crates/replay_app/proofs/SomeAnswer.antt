@@ -34,6 +34,7 @@ use Rattle.replay_app.specs.Policies.{at_fault, IsPolicyRefused, text_refused, s
 use Rattle.replay_app.specs.Scripts as scripts
 use Rattle.replay_app.specs.Targets.{IsTargetRefused, IsTargetOf, HasNoRoom, IsPlacement, IsPlanned, planned, plan_answer}
 use Rattle.policy_rules.specs.Resolved.{Resolved}
+use Rattle.sched_defs.specs.SendTime.{plain_rate}
 use Rattle.sched_defs.specs.Pace.{Link}
 use Rattle.sched_embedded.specs.Laid.{Laid}
 use Rattle.tap_core.specs.Lists as lists
@@ -103,8 +104,8 @@ some-paced : (watching : List lists.Entry) (policy : Resolved) (laid : Laid) (pa
     → ((a : Answer) → IsPaced watching policy laid pacing capture contents a → ⊥) → ⊥
 some-paced watching policy laid (words.script e named) capture contents =
     some-follows kind.Script _ _ _ (read_scripts (contents e)) (λ steps is. exactly (laid_run policy laid (scripts.script_pace steps) capture watching))
-some-paced watching policy laid (words.link rate) capture contents = exactly (laid_run policy laid (Link rate) capture watching)
-some-paced watching policy laid (words.forward rate) capture contents = exactly (forward_run policy laid rate capture)
+some-paced watching policy laid (words.link rate) capture contents = exactly (laid_run policy laid (Link (plain_rate rate)) capture watching)
+some-paced watching policy laid (words.forward rate) capture contents = exactly (forward_run policy laid (plain_rate rate) capture)
 
 pub some-answer : HaveAnAnswer
 some-answer (replay p t c pacing) contents taps =

@@ -1,6 +1,6 @@
 -- The form of each command with its file names.
 use Rattle.std.specs.Prelude.{◌≤◌}
-use Rattle.sched_defs.specs.SendTime.{IsRate}
+use Rattle.sched_defs.specs.SendTime.{IsByteRate}
 use Rattle.tap_core.specs.Names.{none_named}
 use Rattle.tap_core.specs.declared.watch.Named.{Named}
 use Rattle.sched_run.specs.Drawings.{most_load}
@@ -42,8 +42,8 @@ command_form (Via f) = via_form f
 -- a link's rate is in range, and a load isn't too long
 abbrev pub HasRate : code.Pacing → Type 0
 HasRate (code_pacing.Script e named) = Unit {0}
-HasRate (code_pacing.Link rate) = IsRate rate
-HasRate (code_pacing.Forward rate) = IsRate rate
+HasRate (code_pacing.Link rate) = IsByteRate rate
+HasRate (code_pacing.Forward rate) = IsByteRate rate
 
 abbrev pub CanRun : Command → Type 0
 CanRun (Replay f) = HasRate f.pacing

@@ -4,7 +4,9 @@ use Rattle.std.specs.Prelude.{◌≡◌, ℕ, Option, None, List, []}
 use Rattle.report_core.specs.declared.fault.FaultKind.TheVariants.{Words}
 use Rattle.tree_defs.specs.Topology.{topology_of}
 use Rattle.policy_rules.specs.Resolved.{Resolved}
+use Rattle.sched_defs.specs.SendTime.{plain_rate}
 use Rattle.sched_defs.specs.Pace.{Pace, Link}
+use Rattle.sched_defs.specs.declared.rate.LinkRate.{LinkRate}
 use Rattle.sched_embedded.specs.Laid.{Laid}
 use Rattle.sched_embedded.specs.Fabrics.{run_of}
 use Rattle.sched_capture.specs.Answers.{paced_answer, shown_by}
@@ -30,7 +32,7 @@ laid_run policy laid pace capture watching = watched_answer (paced_answer policy
     (run_of policy.policy laid (paced_answer policy pace capture).events) watching (shown_by policy.policy (paced_answer policy pace capture))
 
 -- the status of a run whose departures are written, and those departures as a capture
-abbrev pub forward_run : Resolved → Laid → ℕ → List ℕ → Answer
+abbrev pub forward_run : Resolved → Laid → LinkRate → List ℕ → Answer
 forward_run policy laid rate capture = record {
   status = status_code (forward_status (forward_answer policy rate capture).ending);
   text = (forward_answer policy rate capture).text;
@@ -49,8 +51,8 @@ watchers (forward rate) taps = []
 abbrev pub IsPaced : List Entry → Resolved → Laid → Pacing → List ℕ → (List ℕ → List ℕ) → Answer → Type 0
 IsPaced watching policy laid (script e named) capture contents =
     AlongScript (contents e) (λ steps b. b ≡ laid_run policy laid (script_pace steps) capture watching)
-IsPaced watching policy laid (link rate) capture contents = λ b. b ≡ laid_run policy laid (Link rate) capture watching
-IsPaced watching policy laid (forward rate) capture contents = λ b. b ≡ forward_run policy laid rate capture
+IsPaced watching policy laid (link rate) capture contents = λ b. b ≡ laid_run policy laid (Link (plain_rate rate)) capture watching
+IsPaced watching policy laid (forward rate) capture contents = λ b. b ≡ forward_run policy laid (plain_rate rate) capture
 
 -- The output for these arguments, file contents and taps. Inputs are rejected or accepted in this
 -- order: the policy, the target, the target's room for the policy's tree, the script, if one paces

@@ -17,16 +17,16 @@ use fabric_core::Fabric;
 use outside_core::{Shelf, Sink, Stop};
 use policy_core::Policy;
 use sched_capture::{Placement, forward};
+use sched_defs::LinkRate;
 use std::alloc::Global;
 
-/// Runs a link at `rate` bytes per second over a capture file, and writes the departures as a
-/// capture.
+/// Runs a link over a capture file, and writes the departures as a capture.
 pub fn forward_capture<S: Shelf, K: Sink, F: Fabric>(
     alloc: Global,
     policy: &Policy,
     placement: Placement,
     capture: &str,
-    rate: u64,
+    rate: LinkRate,
     shelf: &mut S,
     sink: &mut K,
     fabric: &mut F,

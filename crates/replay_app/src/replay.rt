@@ -34,6 +34,7 @@ use outside_core::{Shelf, Sink, Stop};
 use policy_core::Policy;
 use report_core::FaultKind;
 use sched_capture::{Ending, Placement, Task, replay};
+use sched_defs::LinkRate;
 use sched_run::Pace;
 use std::alloc::Global;
 use tap_core::{Tap, Watching};
@@ -199,7 +200,7 @@ fn replay_paced<S: Shelf, K: Sink, F: Fabric, T: Tap>(
             replay_script(alloc, policy, placement, &names, shelf, sink, fabric, watch)
         }
         Pacing::Link(rate) => {
-            let pace = Pace::Link(rate);
+            let pace = Pace::Link(LinkRate::plain(rate));
             let capture = files.capture;
             let task = Task { pace, capture };
             replay_capture(alloc, policy, placement, &task, shelf, sink, fabric, watch)
@@ -209,7 +210,7 @@ fn replay_paced<S: Shelf, K: Sink, F: Fabric, T: Tap>(
             policy,
             placement,
             files.capture,
-            rate,
+            LinkRate::plain(rate),
             shelf,
             sink,
             fabric,

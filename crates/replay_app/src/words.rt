@@ -1,6 +1,6 @@
 //! The arguments of the commands.
 ghost use Rattle.std.specs.Prelude.{◌≡◌, ◌≤◌, IfSome, IsFalse, IsTrue, MatchOption, option_map};
-ghost use Rattle.sched_defs.specs.SendTime.{IsRate};
+ghost use Rattle.sched_defs.specs.SendTime.{IsByteRate};
 ghost use Rattle.sched_run.specs.Drawings.{most_load};
 ghost use Rattle.replay_app.specs.Behind.{UsesNoFabric};
 ghost use Rattle.replay_app.specs.Words.{form_in, rate_of, number_within, load_of, three_words, named_in, last_rate, pacing_by, via_by, form_of, no_form, texts};
@@ -79,7 +79,7 @@ pub enum Command<'a> {
 /// Parses a rate in bytes per second, between 1 and `MOST_RATE`.
 fn rate_of(word: &str) -> Option<u64>
     ensures value { result ≡ rate_of word.now }
-    ensures range { IfSome result IsRate }
+    ensures range { IfSome result IsByteRate }
 {
     let rate = decimal(word.as_bytes())?;
     (1..=MOST_RATE).contains(&rate).then_some(rate)
@@ -135,7 +135,7 @@ fn named_in(named: Named, words: &[String]) -> Option<Named>
 /// Parses a rate that must be the last argument.
 fn last_rate(rate: &str, more: &[String]) -> Option<u64>
     ensures value { result ≡ last_rate rate.now (texts more.now) }
-    ensures range { IfSome result IsRate }
+    ensures range { IfSome result IsByteRate }
 {
     if !more.is_empty() {
         return None;

@@ -14,6 +14,7 @@ use Rattle.packet_core.specs.Conditions.{condition_of, conditions_of}
 use Rattle.policy_rules.specs.Resolved.{Resolved}
 use Rattle.sched_defs.specs.Numbered.{AreNumberedFrom, IsSendable}
 use Rattle.sched_defs.specs.Packets.{captured_from}
+use Rattle.sched_defs.specs.declared.rate.LinkRate.{LinkRate}
 use Rattle.forward_defs.specs.SingleLinkType.{other_link, first_link, behind_packet, of_link, of_one_link}
 use Rattle.forward_defs.proofs.ReadBack.{forwarded_runs-read_back}
 use Rattle.sched_packets.specs.Packets.{class_given, packets_from}
@@ -88,7 +89,7 @@ first_link-low [] range = omega arith
 first_link-low (p ∷ ps) range = range.0.link
 
 -- ---- departures read back
-module _ (policy : Resolved) (rate : ℕ) (can : IsRunnable policy) where
+module _ (policy : Resolved) (rate : LinkRate) (can : IsRunnable policy) where
   contents_read_back : (link : ℕ) (c : Contents) → link < 2 ^ 16 → AreInRange c.packets → AreReadBack policy rate link (holds c) (forward_over policy rate link (holds c)).text
   contents_read_back link c low range =
       forwarded_runs-read_back policy.policy rate link (packets_from policy 1 c.packets) c.fault (captured_from 1 c.packets) can.accepted low

@@ -19,6 +19,7 @@ use Rattle.pcapng_defs.specs.NgContents.{in_file}
 use Rattle.policy_rules.specs.Resolved.{Resolved}
 use Rattle.sched_defs.specs.declared.ending.Ending.{Ending}
 use Rattle.sched_defs.specs.Packets.{Left, Captured, captured_from, StaysKnown}
+use Rattle.sched_defs.specs.declared.rate.LinkRate.{LinkRate}
 use Rattle.sched_packets.specs.Arrivals.{Begins, AreCapturedIn, left_in}
 use Rattle.sched_packets.specs.CapturedBytes.{captured_from-are}
 use Rattle.sched_packets.specs.SingleLinkType.{one_link_in, link_in}
@@ -65,7 +66,7 @@ cause_behind source_faults s s' sink_faults k k' k'' (Err Sink) later cause = ro
 cause_behind source_faults s s' sink_faults k k' k'' (Err Memory) later cause = tt
 
 -- ---- the run begins
-module _ (policy : Resolved) (rate : ℕ) (told : Option (List ℕ)) (left : Option Left) (known : Captured → Type 0) (link : ℕ) where
+module _ (policy : Resolved) (rate : LinkRate) (told : Option (List ℕ)) (left : Option Left) (known : Captured → Type 0) (link : ℕ) where
   -- the packets left, their captured bytes and the link type are those of the file
   pub record IsBegun : Type 0 where
     pub begins : IfSome told (λ file. Begins policy (one_link_in (in_file file)) left)
@@ -90,10 +91,10 @@ module _ (policy : Resolved) (rate : ℕ) (told : Option (List ℕ)) (left : Opt
       by_told (Some file) begins captures same = subst (λ (n : ℕ). P (forward_over policy rate n (one_link_in (in_file file)))) same (over_contents (one_link_in (in_file file)) Q P says begins captures each)
 
 -- ---- the file is rejected
-refused : (policy : Resolved) (rate : ℕ) (file : List ℕ) (fault : FaultAt) → one_link_in (in_file file) ≡ no_capture fault → forward_answer policy rate file ≡ forward_refusal fault
+refused : (policy : Resolved) (rate : LinkRate) (file : List ℕ) (fault : FaultAt) → one_link_in (in_file file) ≡ no_capture fault → forward_answer policy rate file ≡ forward_refusal fault
 refused policy rate file fault is = ap (forward_over policy rate (link_in (in_file file))) is
 
-module _ (policy : Resolved) (rate : ℕ) (told : Option (List ℕ)) (e : Ending) (old new : Option (List ℕ)) where
+module _ (policy : Resolved) (rate : LinkRate) (told : Option (List ℕ)) (e : Ending) (old new : Option (List ℕ)) where
   pub refused_ending : (end : ForwardEnding) → end ≡ refusal_ending e → IfSome told (λ file. IsRefusal (one_link_in (in_file file)) e old new) → IfSome told (λ file. end ≡ (forward_answer policy rate file).ending)
   refused_ending end is refusal = by_told told refusal
     where

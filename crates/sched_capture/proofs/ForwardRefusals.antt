@@ -11,6 +11,7 @@ use Rattle.pcapng_defs.specs.NgContents.{in_file}
 use Rattle.capture_core.specs.Captures.{Opens}
 use Rattle.policy_rules.specs.Resolved.{Resolved}
 use Rattle.sched_defs.specs.declared.ending.Ending.{Ending}
+use Rattle.sched_defs.specs.declared.rate.LinkRate.{LinkRate}
 use Rattle.sched_packets.specs.SingleLinkType.{EachFileOf, one_link_in, link_in}
 use Rattle.sched_capture.specs.Answers.{IsRefusalPart}
 use Rattle.sched_capture.specs.Forwards.{forward_over, forward_answer}
@@ -38,6 +39,6 @@ part_of_over : (policy : Resolved) (rate link : ℕ) (file : FileContents) (old 
 part_of_over policy rate link (no_capture fault) old new part = part
 part_of_over policy rate link (holds contents) old new nothing = prefix_of_nothing old new (forward_over policy rate link (holds contents)).text nothing
 
-pub part_of_answer : (policy : Resolved) (rate : ℕ) (told old new : Option (List ℕ)) → IfSome told (λ file. IsRefusalPart (one_link_in (in_file file)) old new)
+pub part_of_answer : (policy : Resolved) (rate : LinkRate) (told old new : Option (List ℕ)) → IfSome told (λ file. IsRefusalPart (one_link_in (in_file file)) old new)
     → IfSome told (λ file. AppendedPrefix old new (forward_answer policy rate file).text)
 part_of_answer policy rate told old new all = IfSome_then told all (λ file part. part_of_over policy rate (link_in (in_file file)) (one_link_in (in_file file)) old new part)

@@ -15,6 +15,7 @@ use Rattle.sched_defs.specs.Script.{Course}
 use Rattle.sched_defs.specs.Numbered.{IsHeldBelow}
 use Rattle.sched_defs.specs.Packets.{Left, Captured, AreThere}
 use Rattle.sched_defs.specs.declared.ending.Ending.{Ending}
+use Rattle.sched_defs.specs.declared.rate.LinkRate.{LinkRate}
 use Rattle.sched_defs.proofs.Soundness.{sound_start}
 use Rattle.sched_defs.proofs.Runs.{outcomes-append}
 use Rattle.pcap_core.specs.Bytes.{records_bytes}
@@ -57,7 +58,7 @@ sent_bytes-append captured os ps =
     ∙ ap (λ rs. records_bytes rs) (map-append (sent_record captured) (sendings os) (sendings ps))
     ∙ records_follow (map (sent_record captured) (sendings os)) (map (sent_record captured) (sendings ps))
 
-module _ {C U : Type 0} (S : Ghosts C U) (R : Recordings Forwarding) (H : Captured → Type 0) (laws : AreJoined R.records R.cuts) (tells : TellsHeard R H) (policy : Policy) (accepted : IsAccepted policy) (rate : ℕ) (old : Stage C U Forwarding)
+module _ {C U : Type 0} (S : Ghosts C U) (R : Recordings Forwarding) (H : Captured → Type 0) (laws : AreJoined R.records R.cuts) (tells : TellsHeard R H) (policy : Policy) (accepted : IsAccepted policy) (rate : LinkRate) (old : Stage C U Forwarding)
     (stood : S.stands old.scheduler old.under (start policy)) (nothing : HoldsNothing old.recorder) where
   -- the bytes recorded of these events from the start
   abbrev told : Captured → List Event → List ℕ

@@ -12,6 +12,7 @@ use Rattle.sched_defs.specs.declared.ending.Ending.TheVariants as run
 use Rattle.sched_defs.specs.Script.{Course}
 use Rattle.sched_defs.specs.Link.{link_course}
 use Rattle.sched_defs.specs.Packets.{Left, Captured, captured_from}
+use Rattle.sched_defs.specs.declared.rate.LinkRate.{LinkRate}
 use Rattle.pcap_core.specs.Bytes.{records_bytes}
 use Rattle.forward_defs.specs.Sendings.{sendings, up_to_late, has_late}
 use Rattle.forward_defs.specs.Forwarded.{sent_record, forward_bytes}
@@ -55,11 +56,11 @@ abbrev pub ending_unless : Bool → Ending → Option Ending
 ending_unless late ending = if late then None else Some ending
 
 -- the run of a link over the packets and the fault after them
-abbrev pub forward_course : Policy → ℕ → Left → Course
+abbrev pub forward_course : Policy → LinkRate → Left → Course
 forward_course policy rate l = link_course policy rate l.packets l.fault (start policy) 0
 
 -- its events up to the first late departure
-abbrev pub forward_events : Policy → ℕ → Left → List Event
+abbrev pub forward_events : Policy → LinkRate → Left → List Event
 forward_events policy rate l = up_to_late (forward_course policy rate l).events
 
 -- the bytes of the departures among the outcomes, after the header
@@ -67,10 +68,10 @@ abbrev pub sent_bytes : Captured → List Outcome → List ℕ
 sent_bytes captured os = records_bytes (map (sent_record captured) (sendings os))
 
 -- the run through a fabric into which the policy's tree is laid
-abbrev pub forward_through : Policy → Laid → ℕ → Left → FabricRun
+abbrev pub forward_through : Policy → Laid → LinkRate → Left → FabricRun
 forward_through policy laid rate l = record { policy = policy; laid = laid; events = forward_events policy rate l }
 
-abbrev pub forward_of : Policy → ℕ → ℕ → Captured → Left → ForwardAnswer
+abbrev pub forward_of : Policy → LinkRate → ℕ → Captured → Left → ForwardAnswer
 forward_of policy rate link captured l = record {
   ending = forward_ending (ending_unless (has_late (forward_course policy rate l).events) (forward_course policy rate l).ending);
   text = forward_bytes link captured (outcomes policy (forward_events policy rate l) (start policy));
@@ -78,12 +79,12 @@ forward_of policy rate link captured l = record {
 }
 
 -- the answer over the packets of one link type
-abbrev pub forward_over : Resolved → ℕ → ℕ → FileContents → ForwardAnswer
+abbrev pub forward_over : Resolved → LinkRate → ℕ → FileContents → ForwardAnswer
 forward_over policy rate link (no_capture fault) = forward_refusal fault
 forward_over policy rate link (holds contents) = forward_of policy.policy rate link (captured_from 1 contents.packets) (left_in policy 0 contents)
 
--- the answer for a policy, a rate in bytes per second, and the bytes of a capture of either format
-abbrev pub forward_answer : Resolved → ℕ → List ℕ → ForwardAnswer
+-- the answer for a policy, a link's rate, and the bytes of a capture of either format
+abbrev pub forward_answer : Resolved → LinkRate → List ℕ → ForwardAnswer
 forward_answer policy rate file = forward_over policy rate (link_in (in_file file)) (one_link_in (in_file file))
 
 forward_ending-other_link : forward_ending (Some (run.BadCapture 20 3)) ≡ OtherLink 3

@@ -12,6 +12,7 @@ use Rattle.sched_defs.specs.SourceState.{start}
 use Rattle.sched_defs.specs.Events.{outcomes}
 use Rattle.sched_defs.specs.Packets.{Left, captured_from}
 use Rattle.sched_defs.specs.Pace.{Pace}
+use Rattle.sched_defs.specs.declared.rate.LinkRate.{LinkRate}
 use Rattle.forward_defs.specs.Sendings.{Sending, sendings}
 use Rattle.forward_defs.specs.Laws.{holds_sendings}
 use Rattle.sched_packets.specs.Arrivals.{left_in}
@@ -32,13 +33,13 @@ AreBytes file = (k : ℕ) → slice_index file k < 256
 
 -- the departures of a link's run over the packets left, up to the first late one, which no capture
 -- can hold
-abbrev pub sent_over : Policy → ℕ → Left → List Sending
+abbrev pub sent_over : Policy → LinkRate → Left → List Sending
 sent_over policy rate l = sendings (outcomes policy (forward_events policy rate l) (start policy))
 
 -- Read as a capture, these bytes are exactly the departures of the run over the file's contents.
 -- Each has this link type, its start, and the original length and the captured bytes of its packet.
 -- Nothing is claimed if there is no run.
-abbrev pub AreReadBack : Resolved → ℕ → ℕ → FileContents → List ℕ → Type 0
+abbrev pub AreReadBack : Resolved → LinkRate → ℕ → FileContents → List ℕ → Type 0
 AreReadBack policy rate link (no_capture fault) bytes = ⊤
 AreReadBack policy rate link (holds contents) bytes =
     in_file bytes ≡ holds_sendings link (captured_from 1 contents.packets) (sent_over policy.policy rate (left_in policy 0 contents))
@@ -47,6 +48,6 @@ AreReadBack policy rate link (holds contents) bytes =
 -- any rate and for any ending.
 abbrev pub ForwardsAreReadBack : Type 0
 ForwardsAreReadBack =
-    (text : List ℕ) (entries : List Entry) (policy : Resolved) (rate : ℕ) (file : List ℕ)
+    (text : List ℕ) (entries : List Entry) (policy : Resolved) (rate : LinkRate) (file : List ℕ)
     → HasEntries text entries → AreAccepted entries → IsResolved entries policy → AreBytes file
     → AreReadBack policy rate (link_in (in_file file)) (one_link_in (in_file file)) (forward_answer policy rate file).text

@@ -36,7 +36,7 @@ use outside_core::{ReadError, Shelf, Sink, SinkError, Stop};
 use pcap_core::put_head;
 use policy_core::Policy;
 use sched_core::Scheduler;
-use sched_defs::Ending;
+use sched_defs::{Ending, LinkRate};
 use sched_packets::{CapturePackets, OTHER_LINK, SingleLinkType};
 use sched_run::{Recorder, Run};
 use std::alloc::Global;
@@ -161,12 +161,12 @@ fn begin_one_link<'a, S: Shelf, K: Sink>(
 }
 
 /// Runs a link over packets of one link type with any scheduler of this policy that represents the
-/// start, and writes a record for each departure. The rate is in bytes per second.
+/// start, and writes a record for each departure.
 fn forward_over<C: Scheduler + Drop, S: Shelf, K: Sink>(
     policy: &Policy,
     run: &mut Run<'_, C, Policy, Forwarding>,
     under: &mut C::Under,
-    rate: u64,
+    rate: LinkRate,
     packets: &mut SingleLinkType<'_, S>,
     shelf: &mut S,
     sink: &mut K,
@@ -229,12 +229,12 @@ fn write_header<K: Sink>(sink: &mut K, link: u16) -> Result<(), Stop>
 }
 
 /// Runs a link over packets of one link type, through a fabric into which the policy's tree is
-/// laid, and writes a record for each departure. The rate is in bytes per second.
+/// laid, and writes a record for each departure.
 fn forward_records<S: Shelf, K: Sink, F: Fabric>(
     alloc: Global,
     policy: &Policy,
     placement: Placement,
-    rate: u64,
+    rate: LinkRate,
     packets: &mut SingleLinkType<'_, S>,
     shelf: &mut S,
     sink: &mut K,
@@ -280,12 +280,12 @@ fn forward_records<S: Shelf, K: Sink, F: Fabric>(
 }
 
 /// Runs a link over packets of one link type, through a fabric into which the policy's tree is
-/// laid, and writes the header and a record for each departure. The rate is in bytes per second.
+/// laid, and writes the header and a record for each departure.
 fn forward_packets<S: Shelf, K: Sink, F: Fabric>(
     alloc: Global,
     policy: &Policy,
     placement: Placement,
-    rate: u64,
+    rate: LinkRate,
     packets: &mut SingleLinkType<'_, S>,
     shelf: &mut S,
     sink: &mut K,
@@ -329,7 +329,7 @@ fn forward_packets<S: Shelf, K: Sink, F: Fabric>(
 /// Runs a link over a capture, through a fabric into which a map lays the policy's tree, and writes
 /// the departures as a capture. The header is written once the capture's first record is read, or
 /// once it is known to have none. A record follows for each departure, with the timestamp at which
-/// it starts. The rate is in bytes per second. The fabric takes the target's shape after the header
+/// it starts. The fabric takes the target's shape after the header
 /// is written. Returns how the run ended. Fails if the capture can't be read, if the records can't
 /// be written, or when out of memory. The output is then cut short.
 pub fn forward<S: Shelf, K: Sink, F: Fabric>(
@@ -337,7 +337,7 @@ pub fn forward<S: Shelf, K: Sink, F: Fabric>(
     policy: &Policy,
     placement: Placement,
     capture: &str,
-    rate: u64,
+    rate: LinkRate,
     shelf: &mut S,
     sink: &mut K,
     fabric: &mut F,

@@ -15,6 +15,7 @@ use Rattle.sched_defs.specs.Faults.{FaultAt}
 use Rattle.sched_defs.specs.Numbered.{IsHeldBelow, CanBeSent}
 use Rattle.sched_defs.specs.Laws.{IsLinkRun, IsSentBefore, IsSentBeforeEach}
 use Rattle.sched_defs.specs.Link.{Sent, sent_nothing, sent_first, is_due, send_until, send_due, send_all, link_turn, link_course}
+use Rattle.sched_defs.specs.declared.rate.LinkRate.{LinkRate}
 use Rattle.sched_defs.proofs.Runs.{sound_after, CanMake-joined, after-append, outcomes-append, pushed_in-append, dropped_in-append, empty_in-append, arrivals_count}
 use Rattle.sched_defs.proofs.Courses.{held_none, held_arrived, held_departed}
 use Rattle.sched_defs.proofs.Soundness.{sound_departed}
@@ -60,7 +61,7 @@ module _ (policy : Policy) where
   by_due s free sent true rest = rest
   by_due s free sent false rest = nothing_sent s free
 
-  pub sending : (rate : ℕ) (until : Option ℕ) (n : ℕ) (s : SourceState) (free : ℕ) → IsSending policy s (send_until policy rate until n s free)
+  pub sending : (rate : LinkRate) (until : Option ℕ) (n : ℕ) (s : SourceState) (free : ℕ) → IsSending policy s (send_until policy rate until n s free)
   sending rate until zero s free = nothing_sent s free
   sending rate until (suc n) s free =
       by_due s free (option_map_or (λ l. sent_first (Depart (Some free)) (send_until policy rate until n (departed policy s) (free + send_time l.packet.len rate))) (leaver s) (sent_nothing s free)) (is_due until free)
@@ -68,7 +69,7 @@ module _ (policy : Policy) where
       (λ l. sending rate until n (departed policy s) (free + send_time l.packet.len rate)) (leaver s) refl)
 
 -- ---- the departures that are due at a packet's timestamp, and its arrival
-module _ (policy : Policy) (rate : ℕ) (p : Packet) (s : SourceState) (free : ℕ) where
+module _ (policy : Policy) (rate : LinkRate) (p : Packet) (s : SourceState) (free : ℕ) where
   abbrev due : Sent
   due = send_due policy rate (max s.now p.moment) s free
 
@@ -106,7 +107,7 @@ module _ (policy : Policy) (rate : ℕ) (p : Packet) (s : SourceState) (free : �
         let o : Outcome = outcome policy (Arrive p) due.state in
         omega (arith, ap pushed_in turn_tells, ap dropped_in turn_tells, pushed_in-append os (o ∷ []), dropped_in-append os (o ∷ []), w.pushed, w.dropped, one.pushed_or_dropped)
 
-pub link_can : (policy : Policy) (rate : ℕ) (packets : List Packet) (fault : Option FaultAt) (first : ℕ) (s : SourceState) (free : ℕ) → CanBeSent policy first packets s → CanMake policy (link_course policy rate packets fault s free).events s
+pub link_can : (policy : Policy) (rate : LinkRate) (packets : List Packet) (fault : Option FaultAt) (first : ℕ) (s : SourceState) (free : ℕ) → CanBeSent policy first packets s → CanMake policy (link_course policy rate packets fault s free).events s
 link_can policy rate [] None first s free can = (sending policy rate None (size s.tree) s free).can
 link_can policy rate [] (Some fault) first s free can = tt
 link_can policy rate (p ∷ packets) fault first s free can =
@@ -116,7 +117,7 @@ link_can policy rate (p ∷ packets) fault first s free can =
     (link_can policy rate packets fault (first + 1) now.state now.free (turn_rest policy rate p s free first packets can)))
 
 -- ---- after a link's run
-module _ (policy : Policy) (rate : ℕ) (accepted : IsAccepted policy) where
+module _ (policy : Policy) (rate : LinkRate) (accepted : IsAccepted policy) where
   -- a departure for each queued packet leaves none
   pub all_sent : (n : ℕ) (s : SourceState) (free : ℕ) → IsSound policy s → size s.tree ≤ n → size (send_until policy rate None n s free).state.tree ≡ 0
   all_sent zero s free sound few = omega arith

@@ -6,12 +6,12 @@ use Rattle.sched_defs.specs.SendTime.{send_time, SendTimeIsLeast}
 
 pub send_time-least : SendTimeIsLeast
 send_time-least len rate is =
-    let bounds = div_ceil_times (len * 1000000000) rate is.0 in
+    let bounds = div_ceil_times ((len + rate.overhead) * 1000000000) rate.bytes is.bytes.0 in
     record {
       enough = bounds.0;
       least = λ other enough.
-          let more : (other + 1) * rate ≡ other * rate + rate = grind arith in
-          let below : send_time len rate * rate < (other + 1) * rate = rw more (omega (arith, bounds.1, enough)) in
-          let close = lt_of_mul-lt-mul_right rate below in
+          let more : (other + 1) * rate.bytes ≡ other * rate.bytes + rate.bytes = grind arith in
+          let below : send_time len rate * rate.bytes < (other + 1) * rate.bytes = rw more (omega (arith, bounds.1, enough)) in
+          let close = lt_of_mul-lt-mul_right rate.bytes below in
           omega arith;
     }

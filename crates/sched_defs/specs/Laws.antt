@@ -15,6 +15,7 @@ use Rattle.sched_defs.specs.declared.ending.Ending.TheVariants.{Whole}
 use Rattle.sched_defs.specs.Numbered.{CanBeSent, departures_asked}
 use Rattle.sched_defs.specs.Faults.{FaultAt}
 use Rattle.sched_defs.specs.Link.{Sent, send_due, link_turn, link_course}
+use Rattle.sched_defs.specs.declared.rate.LinkRate.{LinkRate}
 
 -- ---- sound states
 abbrev pub StartIsSound : Type 0
@@ -149,7 +150,7 @@ LastDrainsLeaveNothing =
 -- the events that a link paces over packets in the order of a capture can be made
 abbrev pub LinksCanRun : Type 0
 LinksCanRun =
-    (policy : Policy) (rate : ℕ) (packets : List Packet) (fault : Option FaultAt) (first : ℕ) (s : SourceState) (free : ℕ) → CanBeSent policy first packets s
+    (policy : Policy) (rate : LinkRate) (packets : List Packet) (fault : Option FaultAt) (first : ℕ) (s : SourceState) (free : ℕ) → CanBeSent policy first packets s
     → CanMake policy (link_course policy rate packets fault s free).events s
 
 -- each packet is pushed or dropped, each departure takes a packet, and after a whole capture none
@@ -161,7 +162,7 @@ pub record IsLinkRun (policy : Policy) (packets : List Packet) (fault : Option F
 
 abbrev pub LinksSendAll : Type 0
 LinksSendAll =
-    (policy : Policy) (rate : ℕ) → IsAccepted policy → (packets : List Packet) (fault : Option FaultAt) (first : ℕ) (s : SourceState) (free : ℕ) → IsSound policy s → CanBeSent policy first packets s
+    (policy : Policy) (rate : LinkRate) → IsAccepted policy → (packets : List Packet) (fault : Option FaultAt) (first : ℕ) (s : SourceState) (free : ℕ) → IsSound policy s → CanBeSent policy first packets s
     → IsLinkRun policy packets fault s (link_course policy rate packets fault s free).events
 
 -- the event is a departure that starts before this timestamp
@@ -178,10 +179,10 @@ pub record IsSentBefore (moment : ℕ) (sent : Sent) : Type 0 where
 
 -- before a timestamp, a link sends the packets that are due
 abbrev pub LinksSendWhatIsDue : Type 0
-LinksSendWhatIsDue = (policy : Policy) (rate moment : ℕ) (s : SourceState) (free : ℕ) → IsAccepted policy → IsSound policy s → IsSentBefore moment (send_due policy rate moment s free)
+LinksSendWhatIsDue = (policy : Policy) (rate : LinkRate) (moment : ℕ) (s : SourceState) (free : ℕ) → IsAccepted policy → IsSound policy s → IsSentBefore moment (send_due policy rate moment s free)
 
 -- the same before each packet of a run, at its timestamp, or at the latest one so far
-abbrev pub IsSentBeforeEach : Policy → ℕ → List Packet → SourceState → ℕ → Type 0
+abbrev pub IsSentBeforeEach : Policy → LinkRate → List Packet → SourceState → ℕ → Type 0
 IsSentBeforeEach policy rate [] s free = ⊤
 IsSentBeforeEach policy rate (p ∷ packets) s free =
     let turn = link_turn policy rate p s free in
@@ -189,5 +190,5 @@ IsSentBeforeEach policy rate (p ∷ packets) s free =
 
 abbrev pub LinksSendBeforeEach : Type 0
 LinksSendBeforeEach =
-    (policy : Policy) (rate : ℕ) (packets : List Packet) (first : ℕ) (s : SourceState) (free : ℕ) → IsAccepted policy → IsSound policy s → CanBeSent policy first packets s
+    (policy : Policy) (rate : LinkRate) (packets : List Packet) (first : ℕ) (s : SourceState) (free : ℕ) → IsAccepted policy → IsSound policy s → CanBeSent policy first packets s
     → IsSentBeforeEach policy rate packets s free

@@ -7,11 +7,12 @@ use Rattle.sched_defs.specs.Faults.{FaultAt}
 use Rattle.sched_defs.specs.Script.{Step, Course, course}
 use Rattle.sched_defs.specs.Link.{link_course}
 use Rattle.sched_defs.specs.Report.{course_report}
+use Rattle.sched_defs.specs.declared.rate.LinkRate.{LinkRate}
 
--- a script's steps, or a link that is free from the start, with its rate in bytes per second
+-- a script's steps, or a link of this rate that is free from the start
 pub data Pace : Type 0 where
   Script : List Step → Pace
-  Link : ℕ → Pace
+  Link : LinkRate → Pace
 
 -- the course over packets and the fault after them, from a state; the first event has this number
 abbrev pub paced_course : Policy → Pace → List Packet → Option FaultAt → SourceState → ℕ → Course

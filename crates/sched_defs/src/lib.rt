@@ -6,6 +6,7 @@ mod ending;
 mod laws;
 mod link;
 mod packets;
+mod rate;
 
 pub use ending::{Ending, PAST_LAST};
 pub use laws::{
@@ -15,3 +16,4 @@ pub use laws::{
 };
 pub use link::send_time_is_least;
 pub use packets::Packets;
+pub use rate::LinkRate;

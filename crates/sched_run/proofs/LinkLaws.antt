@@ -17,6 +17,7 @@ use Rattle.sched_defs.specs.Link.{Sent, sent_nothing, sent_first, is_due, send_u
 use Rattle.sched_defs.specs.Numbered.{IsSendable, IsHeldBelow}
 use Rattle.sched_defs.specs.Packets.{Left, Came, IsOver}
 use Rattle.sched_defs.specs.declared.ending.Ending.TheVariants.{Whole}
+use Rattle.sched_defs.specs.declared.rate.LinkRate.{LinkRate}
 use Rattle.sched_defs.proofs.Courses.{held_none}
 use Rattle.sched_defs.proofs.Leaving.{leaver-none, size_departed}
 use Rattle.sched_defs.proofs.Links.{sending, turn_leads, turn_empty}
@@ -41,11 +42,11 @@ abbrev then_sent : List Event → Sent → Sent
 then_sent events sent = record sent { events = events ++ sent.events }
 
 -- These events are the first `done` departures of the link, which began with `held` packets queued.
-pub record IsPart (policy : Policy) (rate : ℕ) (until : Option ℕ) (held done first now : ℕ) (events : List Event) (s : SourceState) : Type 0 where
+pub record IsPart (policy : Policy) (rate : LinkRate) (until : Option ℕ) (held done first now : ℕ) (events : List Event) (s : SourceState) : Type 0 where
   pub joined : send_until policy rate until held s first ≡ then_sent events (send_until policy rate until (held - done) (after policy events s) now)
   pub holds : size (after policy events s).tree ≡ held - done
 
-pub part_none : (policy : Policy) (rate : ℕ) (until : Option ℕ) (held first : ℕ) (s : SourceState) → held ≡ size s.tree → IsPart policy rate until held 0 first first [] s
+pub part_none : (policy : Policy) (rate : LinkRate) (until : Option ℕ) (held first : ℕ) (s : SourceState) → held ≡ size s.tree → IsPart policy rate until held 0 first first [] s
 part_none policy rate until held first s is =
     let same : held ≡ held - 0 = omega arith in
     record { joined = ap (λ (n : ℕ). send_until policy rate until n s first) same; holds = omega (arith, is) }
@@ -58,7 +59,7 @@ holds_one policy s sound some = by_leaver (leaver s) refl
     by_leaver None e = let z = (leaver-none policy s sound).0 e in absurd (omega (arith, z, some))
     by_leaver (Some l) e = (l, e)
 
-module _ (policy : Policy) (rate : ℕ) (until : Option ℕ) where
+module _ (policy : Policy) (rate : LinkRate) (until : Option ℕ) where
   -- if a departure is due, a packet departs, and then the others
   sends_one : (m : ℕ) (s : SourceState) (l : Leaver) (free : ℕ) → is_due until free ≡ true → leaver s ≡ Some l
       → send_until policy rate until (suc m) s free ≡ sent_first (Depart (Some free)) (send_until policy rate until m (departed policy s) (free + send_time l.packet.len rate))
@@ -121,12 +122,12 @@ module _ (policy : Policy) (rate : ℕ) (until : Option ℕ) where
       part_stops = ((send_until policy rate until (held - (done + 1)) (departed policy mid) (now + send_time one.0.packet.len rate)).events, sym (ap (λ (x : Sent). x.events) unfolded))
 
 -- a part of the link's departures was made
-pub record SendsPart {C U W : Type 0} (S : Ghosts C U) (R : Recordings W) (policy : Policy) (rate : ℕ) (until : Option ℕ) (held done first now : ℕ) (old new : Stage C U W) : Type 0 where
+pub record SendsPart {C U W : Type 0} (S : Ghosts C U) (R : Recordings W) (policy : Policy) (rate : LinkRate) (until : Option ℕ) (held done first now : ℕ) (old new : Stage C U W) : Type 0 where
   pub events : List Event
   pub made : Makes S R policy events old new
   pub told : FromEach S policy old (λ s. IsPart policy rate until held done first now events s)
 
-module _ {C U W : Type 0} (S : Ghosts C U) (R : Recordings W) (laws : AreJoined R.records R.cuts) (policy : Policy) (accepted : IsAccepted policy) (rate : ℕ) (until : Option ℕ) (held first : ℕ) (old : Stage C U W) (holds : ForEachState S.stands policy old.scheduler old.under (λ s. held ≡ size s.tree)) where
+module _ {C U W : Type 0} (S : Ghosts C U) (R : Recordings W) (laws : AreJoined R.records R.cuts) (policy : Policy) (accepted : IsAccepted policy) (rate : LinkRate) (until : Option ℕ) (held first : ℕ) (old : Stage C U W) (holds : ForEachState S.stands policy old.scheduler old.under (λ s. held ≡ size s.tree)) where
   pub sends_none : SendsPart S R policy rate until held 0 first first old old
   sends_none = record {
     events = [];
@@ -228,11 +229,13 @@ module _ {C U W : Type 0} (S : Ghosts C U) (R : Recordings W) (laws : AreJoined 
       }
 
 -- the greatest length takes at most 2^62 nanoseconds
-pub sends_soon : (len rate : ℕ) → IsRate rate → len < 4294967296 → send_time len rate ≤ 4611686018427387904
+pub sends_soon : (len : ℕ) (rate : LinkRate) → IsRate rate → len < 4294967296 → send_time len rate ≤ 4611686018427387904
 sends_soon len rate is few =
-    let all : len * 1000000000 ≤ len * 1000000000 * rate = grind arith in
-    let least = (send_time-least len rate is).least (len * 1000000000) all in
-    omega (arith, least, few)
+    let bytes : ℕ = len + rate.overhead in
+    let some = is.bytes.0 in
+    let all : bytes * 1000000000 ≤ bytes * 1000000000 * rate.bytes = grind (arith, some) in
+    let least = (send_time-least len rate is).least (bytes * 1000000000) all in
+    omega (arith, least, few, is.overhead)
 
 -- the same departures, with an equal number of packets read
 pub same_sends : {C U W : Type 0} (S : Ghosts C U) (R : Recordings W) (policy : Policy) (sent : SourceState → Sent) (free : ℕ) (old : Stage C U W) (c : C) (u : U) (w : W) (written : Option (List ℕ)) (given given' : ℕ) (tally : Tally) (sight : Sight) → given ≡ given'

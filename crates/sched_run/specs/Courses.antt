@@ -16,6 +16,7 @@ use Rattle.sched_defs.specs.declared.ending.Ending.{Ending}
 use Rattle.sched_defs.specs.Packets.{Left}
 use Rattle.sched_defs.specs.Link.{link_course}
 use Rattle.sched_defs.specs.Pace.{paced_course}
+use Rattle.sched_defs.specs.declared.rate.LinkRate.{LinkRate}
 use Rattle.sched_run.specs.declared.pace.Pace.{Pace}
 use Rattle.sched_run.specs.Steps.{step_of, pace_of}
 use Rattle.sched_run.specs.Stages.{Stage, event_of, FromEach, Makes, MakesLast, StopsLast}
@@ -31,7 +32,7 @@ abbrev pub script_agenda : Policy → List line.Step → Left → SourceState �
 script_agenda policy steps left s event = course policy (map step_of steps) left.packets left.fault s event
 
 -- the course of a link that is free from this timestamp on
-abbrev pub link_agenda : Policy → ℕ → ℕ → Left → SourceState → ℕ → Course
+abbrev pub link_agenda : Policy → LinkRate → ℕ → Left → SourceState → ℕ → Course
 link_agenda policy rate free left s event = link_course policy rate left.packets left.fault s free
 
 -- the course that a pace gives

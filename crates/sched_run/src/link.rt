@@ -10,7 +10,7 @@ use outside_core::{ReadError, Sink, Stop};
 use packet_defs::{BLANK, Departed, Packet};
 use policy_defs::NodeNames;
 use sched_core::Scheduler;
-use sched_defs::{Ending, Packets};
+use sched_defs::{Ending, LinkRate, Packets};
 use tap_core::{Tap, Watching};
 
 /// Returns whether a departure is due before the timestamp. Without a timestamp it always is.
@@ -24,7 +24,7 @@ fn is_due(link: &Link, until: Option<u64>) -> bool
 }
 
 /// Keeps the link busy for the send time of the departed packet, if there is one.
-fn take_time(link: &mut Link, departed: Option<Departed>, rate: u64)
+fn take_time(link: &mut Link, departed: Option<Departed>, rate: LinkRate)
     requires early { link.old < 2 ^ 126 }
     requires rate { IsRate rate }
 
@@ -71,7 +71,7 @@ impl<'a, C: Scheduler + Drop, N: NodeNames, W: DepartureRecorder> Run<'a, C, N, 
         sink: &mut K,
         watch: &mut Watching<T>,
         link: &mut Link,
-        rate: u64,
+        rate: LinkRate,
         until: Option<u64>,
     ) -> Result<bool, Stop>
         requires set { IsSet C.Scheduler W.Recorder N.policy self.old }
@@ -127,7 +127,7 @@ impl<'a, C: Scheduler + Drop, N: NodeNames, W: DepartureRecorder> Run<'a, C, N, 
         sink: &mut K,
         watch: &mut Watching<T>,
         link: &mut Link,
-        rate: u64,
+        rate: LinkRate,
         packet: &Packet,
         captured: &[u8],
     ) -> Result<bool, Stop>
@@ -187,7 +187,7 @@ impl<'a, C: Scheduler + Drop, N: NodeNames, W: DepartureRecorder> Run<'a, C, N, 
         watch: &mut Watching<T>,
         packets: &mut P,
         source: &mut P::Source,
-        rate: u64,
+        rate: LinkRate,
     ) -> Result<Option<Ending>, Stop>
         requires set { IsSet C.Scheduler W.Recorder N.policy self.old }
         requires going { W.over self.old.recorder ≡ false }

@@ -2,6 +2,7 @@
 use crate::packets::{HEADER, RECORD, policy_of, shelf_of};
 use outside_core::MemSink;
 use sched_capture::{Ending, Stop, Task, direct};
+use sched_defs::LinkRate;
 use sched_run::Pace;
 use std::test::Fail;
 
@@ -45,7 +46,7 @@ fn a_link_through_the_policys_own_tree(rt: HostRuntime) -> Result<(), Fail> {
         b"policy 1\nclass all\nleaf root using fifo classes all\n",
     )?;
     let task = Task {
-        pace: Pace::Link(1),
+        pace: Pace::Link(LinkRate::plain(1)),
         capture: "c",
     };
     for row in ROWS {

@@ -10,6 +10,7 @@ use Rattle.policy_defs.specs.Accepted.{IsAccepted}
 use Rattle.sched_defs.specs.SourceState.{SourceState, Leaver, start, class_of, arrival_ranks, is_full, arrived, departed, dropped, pushed, left_from, left_with, leaving, leaver}
 use Rattle.sched_defs.specs.Sound.{IsSound, IsAtItsLeaf}
 use Rattle.sched_defs.specs.Events.{Event, Arrive, Depart, Outcome, Arrived, Departed, Dropped, departure, outcome, outcomes, CanMake}
+use Rattle.sched_defs.specs.declared.rate.LinkRate.{LinkRate}
 use Rattle.sched_defs.proofs.Soundness.{sound_start, sound_arrived, sound_departed, popped_is_held}
 use Rattle.summary_core.specs.declared.event.PacketEvent.TheVariants as event
 use Rattle.summary_core.specs.Summing.{ClassEvent, of_class, times_of, Timestamps, no_timestamps, stamps_after, events_by, class_events}
@@ -62,13 +63,13 @@ kept_arrived policy p s k kept = by_full (is_full policy p s)
     by_full false = λ n q. one_more (n == p.number) p (s.held n) (k n) q (kept n q)
 
 -- ---- events
-arrival_first : (rate : ℕ) (t : Bool) (k : Timestamps) (p : Packet) (a : Address) (ranks : List ℕ) (os : List Outcome)
+arrival_first : (rate : LinkRate) (t : Bool) (k : Timestamps) (p : Packet) (a : Address) (ranks : List ℕ) (os : List Outcome)
     → events_by rate (stamps_after k (if t then Dropped p a else Arrived p a ranks)) os ≡ class_events rate os
     → events_by rate k ((if t then Dropped p a else Arrived p a ranks) ∷ os) ≡ class_events rate ((if t then Dropped p a else Arrived p a ranks) ∷ os)
 arrival_first rate true k p a ranks os later = ap (λ (es : List ClassEvent). of_class p.class event.Dropped ∷ es) later
 arrival_first rate false k p a ranks os later = ap (λ (es : List ClassEvent). of_class p.class (event.Arrived p.len p.moment) ∷ es) later
 
-departure_first : (rate : ℕ) (policy : Policy) (start : Option ℕ) (s : SourceState) (k : Timestamps) → IsSound policy s → AreKept s k → (os : List Outcome)
+departure_first : (rate : LinkRate) (policy : Policy) (start : Option ℕ) (s : SourceState) (k : Timestamps) → IsSound policy s → AreKept s k → (os : List Outcome)
     → events_by rate (stamps_after k (departure start (leaver s))) os ≡ class_events rate os
     → events_by rate k (departure start (leaver s) ∷ os) ≡ class_events rate (departure start (leaver s) ∷ os)
 departure_first rate policy start s k sound kept os =
@@ -79,7 +80,7 @@ departure_first rate policy start s k sound kept os =
     (subst (λ (m : ℕ). k m ≡ Some p.moment) (sym (sound.numbered taken.value p held)) (kept taken.value p held))
     ∙ ap (λ (es : List ClassEvent). of_class p.class (event.Departed p.len (times_of rate p.len start (Some p.moment))) ∷ es) later)
 
-module _ (policy : Policy) (accepted : IsAccepted policy) (rate : ℕ) where
+module _ (policy : Policy) (accepted : IsAccepted policy) (rate : LinkRate) where
   events_from : (es : List Event) (s : SourceState) (k : Timestamps) → IsSound policy s → CanMake policy es s → AreKept s k
       → events_by rate k (outcomes policy es s) ≡ class_events rate (outcomes policy es s)
   events_from [] s k sound can kept = refl

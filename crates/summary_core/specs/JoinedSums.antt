@@ -3,6 +3,7 @@ use Rattle.std.proofs.Common.{◌≡◌, ℕ, ◌==◌, Bool, if◌then◌else�
 use Rattle.std.specs.Prelude.{option_map}
 use Rattle.sched_defs.specs.Events as run
 use Rattle.sched_defs.specs.Events.{Outcome}
+use Rattle.sched_defs.specs.declared.rate.LinkRate.{LinkRate}
 use Rattle.summary_core.specs.Counting.{with_event}
 use Rattle.summary_core.specs.Summing.{ClassEvent, of_class, times_of, Timestamps, stamps_after, stamps_behind, event_by, events_by, counted, any_class, is_class, is_at_leaf, items_at, delays_at, delays_in}
 use Rattle.summary_core.specs.declared.counts.Counts.{Counts}
@@ -26,7 +27,7 @@ same_after j k (run.Departed p a ranks start) same n = ap (λ (x : Option ℕ). 
 same_after j k (run.Dropped p a) same n = same n
 same_after j k run.Empty same n = same n
 
-same_event : (rate : ℕ) (j k : Timestamps) (o : Outcome) → ((n : ℕ) → j n ≡ k n) → event_by rate j o ≡ event_by rate k o
+same_event : (rate : LinkRate) (j k : Timestamps) (o : Outcome) → ((n : ℕ) → j n ≡ k n) → event_by rate j o ≡ event_by rate k o
 same_event rate j k (run.Arrived p a ranks) same = refl
 same_event rate j k (run.Departed p a ranks start) same = ap (λ (x : Option ℕ). of_class p.class (Departed p.len (times_of rate p.len start x)) ∷ []) (same p.number)
 same_event rate j k (run.Dropped p a) same = refl
@@ -36,7 +37,7 @@ pub same_behind : (j k : Timestamps) (os : List Outcome) → ((n : ℕ) → j n 
 same_behind j k [] same n = same n
 same_behind j k (o ∷ os) same n = same_behind (stamps_after j o) (stamps_after k o) os (same_after j k o same) n
 
-pub same_events : (rate : ℕ) (j k : Timestamps) (os : List Outcome) → ((n : ℕ) → j n ≡ k n) → events_by rate j os ≡ events_by rate k os
+pub same_events : (rate : LinkRate) (j k : Timestamps) (os : List Outcome) → ((n : ℕ) → j n ≡ k n) → events_by rate j os ≡ events_by rate k os
 same_events rate j k [] same = refl
 same_events rate j k (o ∷ os) same =
     ap (λ (es : List ClassEvent). es ++ events_by rate (stamps_after j o) os) (same_event rate j k o same)
@@ -47,7 +48,7 @@ stamps-append : (k : Timestamps) (os ps : List Outcome) (n : ℕ) → stamps_beh
 stamps-append k [] ps n = refl
 stamps-append k (o ∷ os) ps n = stamps-append (stamps_after k o) os ps n
 
-pub events_by-append : (rate : ℕ) (k : Timestamps) (os ps : List Outcome) → events_by rate k (os ++ ps) ≡ events_by rate k os ++ events_by rate (stamps_behind k os) ps
+pub events_by-append : (rate : LinkRate) (k : Timestamps) (os ps : List Outcome) → events_by rate k (os ++ ps) ≡ events_by rate k os ++ events_by rate (stamps_behind k os) ps
 events_by-append rate k [] ps = refl
 events_by-append rate k (o ∷ os) ps =
     ap (λ (es : List ClassEvent). event_by rate k o ++ es) (events_by-append rate (stamps_after k o) os ps)

@@ -1,13 +1,15 @@
 -- Examples of sums.
 use Rattle.std.specs.Prelude.{◌≡◌, refl, ℕ, true, false, None, Some, map, List, [], ◌∷◌}
+use Rattle.sched_defs.specs.SendTime.{plain_rate}
 use Rattle.sched_defs.specs.Rows.{packet}
 use Rattle.sched_defs.specs.Events.{Outcome, Arrived, Departed, Dropped, Empty}
+use Rattle.sched_defs.specs.declared.rate.LinkRate.{LinkRate}
 use Rattle.summary_core.specs.Counting.{no_counts, throughput_of}
 use Rattle.summary_core.specs.Summing.{class_events, no_timestamps, events_by, counted, any_class, is_class, is_at_leaf, delays_in}
 
 -- a link that sends one byte per nanosecond
-abbrev byte_a_nanosecond : ℕ
-byte_a_nanosecond = 1000000000
+abbrev byte_a_nanosecond : LinkRate
+byte_a_nanosecond = plain_rate 1000000000
 
 -- Two packets arrive, a third is dropped, and both depart, with delays of 100 and 450 ns.
 abbrev two_sent : List Outcome

@@ -4,6 +4,7 @@ use Rattle.std.specs.List.{AllByRecursion}
 use Rattle.summary_core.specs.Counting.{no_counts}
 use Rattle.indexmap.specs.IndexMap.{get}
 use Rattle.sched_defs.specs.Events.{Outcome}
+use Rattle.sched_defs.specs.declared.rate.LinkRate.{LinkRate}
 use Rattle.summary_core.specs.Summing.{ClassEvent, Timestamps, stamps_behind, events_by, counted, any_class, is_class, is_at_leaf, items_at, delays_in}
 use Rattle.summary_core.specs.declared.summary.Summary.{Summary}
 
@@ -42,8 +43,8 @@ pub record Sums (w v : Summary) (os : List Outcome) : Type 0 where
   pub sums : IsTrue v.whole → AddsEvents w v (events_by w.rate (timestamp_at w) os)
 
 -- nothing was summed; the table gives the index of each class's leaf
-pub record SumsNothing (bytes_a_second : ℕ) (leaf_of : List ℕ) (count : ℕ) (s : Summary) : Type 0 where
-  pub rate : s.rate ≡ bytes_a_second
+pub record SumsNothing (link : LinkRate) (leaf_of : List ℕ) (count : ℕ) (s : Summary) : Type 0 where
+  pub rate : s.rate ≡ link
   pub table : s.table.items ≡ leaf_of
   pub timestamps : (n : ℕ) → timestamp_at s n ≡ None
   pub all : s.all ≡ no_counts

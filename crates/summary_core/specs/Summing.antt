@@ -4,6 +4,7 @@ use Rattle.std.specs.declared.alloc.Global.{Global}
 use Rattle.std.specs.Option.{option_map_or}
 use Rattle.sched_defs.specs.SendTime.{send_time}
 use Rattle.sched_defs.specs.Events as run
+use Rattle.sched_defs.specs.declared.rate.LinkRate.{LinkRate}
 use Rattle.summary_core.specs.declared.event.Times.{Times}
 use Rattle.summary_core.specs.declared.event.PacketEvent.{PacketEvent}
 use Rattle.summary_core.specs.declared.event.PacketEvent.TheVariants.{Arrived, Departed, Dropped}
@@ -23,19 +24,19 @@ abbrev pub of_class : ℕ → PacketEvent → ClassEvent
 of_class class event = record { class = class; event = event }
 
 -- the delay and the finish of a packet of this length, if its start and its timestamp are known
-abbrev pub times_of : ℕ → ℕ → Option ℕ → Option ℕ → Option Times
+abbrev pub times_of : LinkRate → ℕ → Option ℕ → Option ℕ → Option Times
 times_of rate len None timestamp = None
 times_of rate len (Some start) None = None
 times_of rate len (Some start) (Some timestamp) = Some (record { delay = start - timestamp; finish = start + send_time len rate })
 
 -- ---- by each packet's own timestamp
-abbrev pub class_event : ℕ → run.Outcome → List ClassEvent
+abbrev pub class_event : LinkRate → run.Outcome → List ClassEvent
 class_event rate (run.Arrived p a ranks) = of_class p.class (Arrived p.len p.moment) ∷ []
 class_event rate (run.Departed p a ranks start) = of_class p.class (Departed p.len (times_of rate p.len start (Some p.moment))) ∷ []
 class_event rate (run.Dropped p a) = of_class p.class Dropped ∷ []
 class_event rate run.Empty = []
 
-abbrev pub class_events : ℕ → List run.Outcome → List ClassEvent
+abbrev pub class_events : LinkRate → List run.Outcome → List ClassEvent
 class_events rate [] = []
 class_events rate (o ∷ os) = class_event rate o ++ class_events rate os
 
@@ -56,13 +57,13 @@ abbrev pub stamps_behind : Timestamps → List run.Outcome → Timestamps
 stamps_behind kept [] = kept
 stamps_behind kept (o ∷ os) = stamps_behind (stamps_after kept o) os
 
-abbrev pub event_by : ℕ → Timestamps → run.Outcome → List ClassEvent
+abbrev pub event_by : LinkRate → Timestamps → run.Outcome → List ClassEvent
 event_by rate kept (run.Arrived p a ranks) = of_class p.class (Arrived p.len p.moment) ∷ []
 event_by rate kept (run.Departed p a ranks start) = of_class p.class (Departed p.len (times_of rate p.len start (kept p.number))) ∷ []
 event_by rate kept (run.Dropped p a) = of_class p.class Dropped ∷ []
 event_by rate kept run.Empty = []
 
-abbrev pub events_by : ℕ → Timestamps → List run.Outcome → List ClassEvent
+abbrev pub events_by : LinkRate → Timestamps → List run.Outcome → List ClassEvent
 events_by rate kept [] = []
 events_by rate kept (o ∷ os) = event_by rate kept o ++ events_by rate (stamps_after kept o) os
 

@@ -2,6 +2,7 @@
 use crate::{Delays, Summary, percentiles};
 use outside_core::PlainSink;
 use packet_defs::{BLANK, Departed, Packet};
+use sched_defs::LinkRate;
 use sched_run::Recorder;
 use std::test::Fail;
 
@@ -29,7 +30,7 @@ fn departure(packet: u64, len: u32) -> Departed {
 fn a_played_run_is_summed(rt: HostRuntime) -> Result<(), Fail> {
     let mut sink = PlainSink::new(rt.alloc(), 0)?;
     let table = vec![in rt.alloc(); 0]?;
-    let mut summary = Summary::new(rt.alloc(), 1_000, table, 1)?;
+    let mut summary = Summary::new(rt.alloc(), LinkRate::plain(1_000), table, 1)?;
     summary.arrived(&mut sink, 1, &packet(1, 100, 5), &[], "root", &[0])?;
     summary.arrived(&mut sink, 2, &packet(2, 50, 7), &[], "root", &[0])?;
     summary.dropped(&mut sink, 3, &packet(3, 50, 8), "root")?;

@@ -11,6 +11,7 @@ use crate::event::{PacketEvent, Times};
 use crate::table::{count_at, count_at_leaf, delay_at, reserve_at};
 use indexmap::IndexMap;
 use packet_defs::{Departed, Packet};
+use sched_defs::LinkRate;
 use std::alloc::{AllocError, Global};
 
 /// Nanoseconds per second.
@@ -22,7 +23,7 @@ const MOST_START: u128 = 1 << 126;
 /// Returns the times of a departure, if its start and the timestamp of its packet are known. It is
 /// an error if the rate is 0, the start is 2^126 or more, or the delay is 2^64 or more.
 fn times(
-    rate: u64,
+    rate: LinkRate,
     len: u32,
     start: Option<u128>,
     timestamp: Option<u64>,
@@ -32,14 +33,15 @@ fn times(
     let (Some(start), Some(timestamp)) = (start, timestamp) else {
         return Ok(None);
     };
-    if rate == 0 || start >= MOST_START {
+    if rate.bytes == 0 || start >= MOST_START {
         return Err(());
     }
     let delay = start.saturating_sub(u128::from(timestamp));
     if delay >= 1 << 64 {
         return Err(());
     }
-    let finish = start + (u128::from(len) * SECOND).div_ceil(u128::from(rate));
+    let bytes = u128::from(len) + u128::from(rate.overhead);
+    let finish = start + (bytes * SECOND).div_ceil(u128::from(rate.bytes));
     Ok(Some(Times {
         delay: delay as u64,
         finish,
@@ -63,8 +65,8 @@ fn no_lists(alloc: Global, count: usize) -> Result<Vec<Vec<u64>>, AllocError>
 /// packet.
 #[derive(Drop)]
 pub struct Summary {
-    /// The link's rate in bytes per second.
-    rate: u64,
+    /// The link's rate.
+    rate: LinkRate,
     /// The index of each class's leaf.
     table: Vec<u32>,
     all: Counts,
@@ -82,11 +84,11 @@ impl Summary {
     ghost use Rattle.std.specs.Prelude.{◌≡◌, List, ◌∷◌, [], ℕ, ◌==◌, if◌then◌else◌, Some, None, Option, slice_get, IsTrue, IfOk, OnOk};
     ghost use Rattle.summary_core.specs.Summary.{timestamp_at, AddsEvents, Stays, HoldsAlike, Sums, SumsNothing};
 
-    /// Returns the sums of no packet, for a link of `rate` bytes per second. The table gives the
+    /// Returns the sums of no packet, for a link of this rate. The table gives the
     /// index of each class's leaf among that many leaves. The error is out of memory.
     pub fn new(
         alloc: Global,
-        rate: u64,
+        rate: LinkRate,
         table: Vec<u32>,
         leaves: usize,
     ) -> Result<Summary, AllocError>
