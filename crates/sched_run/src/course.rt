@@ -164,7 +164,7 @@ impl<'a, C: Scheduler + Drop, N: NodeNames, W: DepartureRecorder> Run<'a, C, N, 
 
     /// Makes the events of a run and records each, up to its end or until no more packets arrive.
     /// Returns how the run ends, or `None` if it ended early because nothing more can be recorded.
-    fn play_events<P: Packets, K: Sink, T: Tap>(
+    pub fn play_events<P: Packets, K: Sink, T: Tap>(
         &mut self,
         under: &mut C::Under,
         sink: &mut K,
