@@ -48,4 +48,11 @@ impl<'a, C: Drop, N, W: Drop> Run<'a, C, N, W> {
             tally: Tally::new(),
         })
     }
+
+    /// Ends the run, and returns its recorder.
+    pub fn into_recorder(self) -> W
+        ensures { result ≡ self.recorder }
+    {
+        self.recorder
+    }
 }
