@@ -28,7 +28,7 @@ use Rattle.sched_capture.specs.Forwards.{ForwardAnswer, forward_of, forward_over
 use Rattle.sched_capture.specs.declared.departures.ForwardEnding.{ForwardEnding}
 
 -- ---- the header, and then the records
-module _ (policy : Policy) (rate link : ℕ) (left : Option Left) (known : Captured → Type 0) (r : Result ForwardEnding Stop) where
+module _ (policy : Policy) (rate : LinkRate) (link : ℕ) (left : Option Left) (known : Captured → Type 0) (r : Result ForwardEnding Stop) where
   -- the bytes written are a prefix of the answer's
   abbrev IsPartOfAnswer : Option (List ℕ) → Option (List ℕ) → Type 0
   IsPartOfAnswer a b = OnErr r (IfSome left (λ l. (captured : Captured) → known captured → AppendedPrefix a b (forward_of policy rate link captured l).text))

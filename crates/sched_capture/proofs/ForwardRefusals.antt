@@ -35,7 +35,7 @@ pub part_of_file : (answer : Result Ending Stop) (told old new : Option (List �
 part_of_file answer told old new = on_err_weaker answer (λ all. IfSome_then told all (λ file part. part_of_one_link (in_file file) old new part))
 
 -- and so it is a prefix of the answer
-part_of_over : (policy : Resolved) (rate link : ℕ) (file : FileContents) (old new : Option (List ℕ)) → IsRefusalPart file old new → AppendedPrefix old new (forward_over policy rate link file).text
+part_of_over : (policy : Resolved) (rate : LinkRate) (link : ℕ) (file : FileContents) (old new : Option (List ℕ)) → IsRefusalPart file old new → AppendedPrefix old new (forward_over policy rate link file).text
 part_of_over policy rate link (no_capture fault) old new part = part
 part_of_over policy rate link (holds contents) old new nothing = prefix_of_nothing old new (forward_over policy rate link (holds contents)).text nothing
 

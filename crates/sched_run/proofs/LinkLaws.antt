@@ -264,13 +264,13 @@ same_first S R laws over policy sent old c u w written given given' tally sight 
 
 -- ---- the turns of a link
 -- at first the link is free, and all events are still to come
-pub link_begins : {C U W : Type 0} (S : Ghosts C U) (R : Recordings W) (laws : AreJoined R.records R.cuts) (policy : Policy) (rate free : ℕ) → free ≡ 0 → (a : Option Left) (c : C) (u : U) (w : W) (written : Option (List ℕ)) (given : ℕ) (tally : Tally) (sight : Sight)
+pub link_begins : {C U W : Type 0} (S : Ghosts C U) (R : Recordings W) (laws : AreJoined R.records R.cuts) (policy : Policy) (rate : LinkRate) (free : ℕ) → free ≡ 0 → (a : Option Left) (c : C) (u : U) (w : W) (written : Option (List ℕ)) (given : ℕ) (tally : Tally) (sight : Sight)
     → HasRun S R policy (link_agenda policy rate 0) (link_agenda policy rate free) 0 0 a a (stage c u w written given tally sight) (stage c u w written given tally sight)
 link_begins S R laws policy rate free e a c u w written given tally sight =
     subst (λ (n : ℕ). HasRun S R policy (link_agenda policy rate 0) (link_agenda policy rate n) 0 0 a a (stage c u w written given tally sight) (stage c u w written given tally sight)) (sym e)
     (run_none S R laws policy (link_agenda policy rate 0) 0 a c u w written given tally sight)
 
-module _ {C U W : Type 0} (S : Ghosts C U) (R : Recordings W) (policy : Policy) (rate free : ℕ) where
+module _ {C U W : Type 0} (S : Ghosts C U) (R : Recordings W) (policy : Policy) (rate : LinkRate) (free : ℕ) where
   -- a packet was read, and its turn was made
   pub link_goes : (p : Packet) (free' : ℕ) (a b : Option Left) (old new : Stage C U W) → Came a b (p ∷ []) → Sends S R policy (λ s. link_turn policy rate p s free) free' old new
       → HasRun S R policy (link_agenda policy rate free) (link_agenda policy rate free') 0 0 a b old new
@@ -361,7 +361,7 @@ module _ {C U W : Type 0} (S : Ghosts C U) (R : Recordings W) (policy : Policy) 
   link_drain_first over a b old new came none sends = record { events = sends.events; made = sends.made; first = first_of_all a sends.events old (over_before a b came none) sends.first }
 
 -- ---- one turn
-module _ {C U W : Type 0} (S : Ghosts C U) (R : Recordings W) (laws : AreJoined R.records R.cuts) (policy : Policy) (accepted : IsAccepted policy) (rate free : ℕ) (p : Packet) (moment : ℕ) (old : Stage C U W) (moments : FromEach S policy old (λ s. moment ≡ max s.now p.moment)) where
+module _ {C U W : Type 0} (S : Ghosts C U) (R : Recordings W) (laws : AreJoined R.records R.cuts) (policy : Policy) (accepted : IsAccepted policy) (rate : LinkRate) (free : ℕ) (p : Packet) (moment : ℕ) (old : Stage C U W) (moments : FromEach S policy old (λ s. moment ≡ max s.now p.moment)) where
   -- a turn is the due departures, followed by the arrival
   is_turn : (s : SourceState) → moment ≡ max s.now p.moment → (link_turn policy rate p s free).events ≡ (send_until policy rate (Some moment) (size s.tree) s free).events ++ Arrive p ∷ []
   is_turn s e = ap (λ (n : ℕ). (send_until policy rate (Some n) (size s.tree) s free).events ++ Arrive p ∷ []) (sym e)
