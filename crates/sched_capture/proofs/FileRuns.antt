@@ -62,13 +62,13 @@ module _ (policy : Resolved) (pace : Pace) where
 
 -- ---- the cause of a stop
 module _ {S K : Type 0} (source_faults : S → ℕ) (s s' s'' : S) (sink_faults : K → ℕ) (k k' k'' : K) where
-  pub sink_rose : (r : Result Ending Stop) → sink_faults k ≤ sink_faults k' → IfErr r (λ stop. HasCause stop source_faults s' s'' sink_faults k' k'') → IsErrOf r Sink → Rose (sink_faults k) (sink_faults k'')
+  pub sink_rose : {X : Type 0} (r : Result X Stop) → sink_faults k ≤ sink_faults k' → IfErr r (λ stop. HasCause stop source_faults s' s'' sink_faults k' k'') → IsErrOf r Sink → Rose (sink_faults k) (sink_faults k'')
   sink_rose (Ok e) later cause is = cc
   sink_rose (Err Source) later cause is = cc
   sink_rose (Err Sink) later cause is = rose_after (sink_faults k) (sink_faults k') (sink_faults k'') later cause
   sink_rose (Err Memory) later cause is = cc
 
-  pub source_rose : (r : Result Ending Stop) → source_faults s ≤ source_faults s' → IfErr r (λ stop. HasCause stop source_faults s' s'' sink_faults k' k'') → IsErrOf r Source → Rose (source_faults s) (source_faults s'')
+  pub source_rose : {X : Type 0} (r : Result X Stop) → source_faults s ≤ source_faults s' → IfErr r (λ stop. HasCause stop source_faults s' s'' sink_faults k' k'') → IsErrOf r Source → Rose (source_faults s) (source_faults s'')
   source_rose (Ok e) later cause is = cc
   source_rose (Err Source) later cause is = rose_after (source_faults s) (source_faults s') (source_faults s'') later cause
   source_rose (Err Sink) later cause is = cc

@@ -10,3 +10,4 @@ pub mod RunnablePolicies
 pub mod PacketRanges
 pub mod FilesReadBack
 pub mod SentRecords
+pub mod RecordedRuns

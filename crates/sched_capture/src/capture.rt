@@ -12,6 +12,7 @@ ghost use Rattle.sched_defs.specs.SourceState.{start};
 ghost use Rattle.sched_core.specs.PolicyState.{policy_in};
 ghost use Rattle.sched_core.specs.Direct.{DirectStands};
 ghost use Rattle.sched_run.specs.Frames.{IsSet};
+ghost use Rattle.sched_run.specs.Stages.{IsFresh};
 ghost use Rattle.sched_run.specs.Steps.{pace_of, IsBounded, IsNoPastLast, CanEndSo};
 ghost use Rattle.sched_capture.specs.Answers.{IsRefusal, IsRefusalPart, answer_of, paced_answer};
 
@@ -89,21 +90,24 @@ pub fn begin<'a, S: Shelf, K: Sink>(
     }
 }
 
-/// Returns a run without events, through the policy's own tree of queues, and that tree. The error
-/// means out of memory.
-fn direct_run<'a>(
+/// Returns a run without events, through the policy's own tree of queues, with this recorder, and
+/// that tree. The error means out of memory.
+pub(crate) fn direct_run<'a, W: Recorder>(
     alloc: Global,
     policy: &'a Policy,
-) -> Result<(Run<'a, Direct<'a>, Policy, Report>, SourceTree), AllocError>
-    ensures set { IfOk result (λ r. IsSet ⟦<Direct<'a> as Scheduler>⟧ ⟦<Report as Recorder>⟧ (λ p.
+    recorder: W,
+) -> Result<(Run<'a, Direct<'a>, Policy, W>, SourceTree), AllocError>
+    requires live { W.live recorder }
+
+    ensures set { IfOk result (λ r. IsSet ⟦<Direct<'a> as Scheduler>⟧ W.Recorder (λ p.
         p.policy) r.0) }
-    ensures unwritten { IfOk result (λ r. r.0.recorder.unwritten ≡ []) }
+    ensures recorder { IfOk result (λ r. r.0.recorder ≡ recorder) }
+    ensures fresh { IfOk result (λ r. IsFresh r.0.tally) }
     ensures policy { IfOk result (λ r. policy_in r.0.scheduler.own ≡ policy.now.policy) }
     ensures stands { IfOk result (λ r. DirectStands r.0.scheduler r.1 (start policy.now.policy)) }
     ensures pushes { IfOk result (λ r. r.0.scheduler.own.pushes ≡ 0) }
     ensures departures { IfOk result (λ r. r.0.scheduler.own.departures ≡ 0) }
 {
-    let report = Report::new(alloc)?;
     let (scheduler, tree) = Direct::new(alloc, policy)?;
     let run = Run::new(
         alloc,
@@ -111,7 +115,7 @@ fn direct_run<'a>(
         policy.depth(),
         policy.version(),
         scheduler,
-        report,
+        recorder,
     )?;
     Ok((run, tree))
 }
@@ -142,7 +146,8 @@ fn direct_packets<S: Shelf, K: Sink>(
     ensures cause { IfErr result (λ stop. HasCause stop S.faults shelf.old shelf.new K.faults
         sink.old sink.new) }
 {
-    let (mut run, mut tree) = direct_run(alloc, policy)?;
+    let report = Report::new(alloc)?;
+    let (mut run, mut tree) = direct_run(alloc, policy, report)?;
     let mut watch: Watching<Box<dyn Tap>> = Watching::new(alloc, Named::none(), Vec::new(alloc));
     run_over(
         policy, &mut run, &mut tree, pace, packets, shelf, sink, &mut watch,

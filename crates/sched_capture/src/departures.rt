@@ -28,7 +28,7 @@ ghost use Rattle.sched_capture.specs.Answers.{IsRefusal, IsRefusalPart};
 ghost use Rattle.sched_capture.specs.Forwards.{forward_ending, refusal_ending, sent_bytes, forward_events, forward_of, forward_through, forward_answer};
 ghost use Rattle.sched_capture.specs.Placements.{laid_by};
 
-use crate::capture::{begin, refuse};
+use crate::capture::{begin, direct_run, refuse};
 use crate::fabric::{Placement, run_through};
 use crate::forwarding::Forwarding;
 use fabric_core::Fabric;
@@ -380,6 +380,78 @@ pub fn forward<S: Shelf, K: Sink, F: Fabric>(
             sink,
             fabric,
         ),
+        Err(Ok(ending)) => Ok(refusal_of(ending)),
+        Err(Err(stop)) => Err(stop),
+    }
+}
+
+/// Runs a link over packets of one link type, through the policy's own tree of queues, and writes
+/// the header and a record for each departure.
+fn forward_own_packets<S: Shelf, K: Sink>(
+    alloc: Global,
+    policy: &Policy,
+    rate: LinkRate,
+    packets: &mut SingleLinkType<'_, S>,
+    shelf: &mut S,
+    sink: &mut K,
+) -> Result<ForwardEnding, Stop>
+    requires rate { IsRate rate }
+    requires packets { policy_of packets.old ≡ policy.now.policy }
+    requires none_given { given_by packets.old ≡ 0 }
+    requires ready { IsReady packets.old (S.begun shelf.old) }
+
+    ensures ending { IfOk result (λ e. IfSome (left_of packets.old (S.left shelf.old)) (λ l.
+        (link : ℕ) (captured : Captured) →
+        e ≡ (forward_of policy.now.policy rate link captured l).ending)) }
+    ensures text { OnOk result (IfSome (left_of packets.old (S.left shelf.old)) (λ l.
+        (captured : Captured) →
+        captures_of packets.old (S.left shelf.old) captured → Appended (K.written sink.old) (K.written sink.new)
+        (forward_of policy.now.policy rate (link_of packets.old) captured l).text)) }
+    ensures part { OnErr result (IfSome (left_of packets.old (S.left shelf.old)) (λ l.
+        (captured : Captured) →
+        captures_of packets.old (S.left shelf.old) captured → AppendedPrefix (K.written sink.old) (K.written sink.new)
+        (forward_of policy.now.policy rate (link_of packets.old) captured l).text)) }
+    ensures kept { KeepsSink K.written K.faults sink.old sink.new }
+    ensures later { S.faults shelf.old ≤ S.faults shelf.new }
+    ensures cause { IfErr result (λ stop. HasCause stop S.faults shelf.old shelf.new K.faults
+        sink.old sink.new) }
+{
+    write_header(sink, packets.link())?;
+    let recorder = Forwarding::new(alloc)?;
+    let (mut run, mut tree) = direct_run(alloc, policy, recorder)?;
+    let mut watch: Watching<OrderTap> = Watching::new(alloc, Named::none(), Vec::new(alloc));
+    forward_over(
+        policy, &mut run, &mut tree, rate, packets, shelf, sink, &mut watch,
+    )
+}
+
+/// Runs a link over a capture, through the policy's own tree of queues, and writes the departures
+/// as a capture, as `forward` does.
+pub fn forward_own<S: Shelf, K: Sink>(
+    alloc: Global,
+    policy: &Policy,
+    capture: &str,
+    rate: LinkRate,
+    shelf: &mut S,
+    sink: &mut K,
+) -> Result<ForwardEnding, Stop>
+    requires lent { IsTrue (S.lends shelf.old capture.now) }
+    requires rate { IsRate rate }
+
+    ensures ending { IfOk result (λ e. IfSome (S.content shelf.old capture.now) (λ file.
+        e ≡ (forward_answer policy.now rate file).ending)) }
+    ensures text { OnOk result (IfSome (S.content shelf.old capture.now) (λ file.
+        Appended (K.written sink.old) (K.written sink.new) (forward_answer policy.now rate file).text)) }
+    ensures part { OnErr result (IfSome (S.content shelf.old capture.now) (λ file.
+        AppendedPrefix (K.written sink.old) (K.written sink.new) (forward_answer policy.now rate file).text)) }
+    ensures sink_cause { IsErrOf result Stop.Sink → Rose (K.faults sink.old) (K.faults sink.new) }
+    ensures source_cause { IsErrOf result Stop.Source → Rose (S.faults shelf.old)
+        (S.faults shelf.new) }
+    ensures kept { KeepsSink K.written K.faults sink.old sink.new }
+    ensures later { S.faults shelf.old ≤ S.faults shelf.new }
+{
+    match begin_one_link(alloc, policy, capture, shelf, sink) {
+        Ok(mut packets) => forward_own_packets(alloc, policy, rate, &mut packets, shelf, sink),
         Err(Ok(ending)) => Ok(refusal_of(ending)),
         Err(Err(stop)) => Err(stop),
     }

@@ -1,0 +1,34 @@
+use Rattle.std.proofs.Common.{◌≡◌}
+use Rattle.std.proofs.lemmas.Result.{IfOk-weaker, on_ok_weaker, on_err_weaker}
+use Rattle.sched_packets.specs.SingleLinkType.{left_of, captures_of, link_of}
+use Rattle.outside_core.specs.Written.{Appended, AppendedPrefix}
+use Rattle.sched_capture.proofs.ForwardFiles.{in_told}
+use Rattle.sched_capture.proofs.ForwardRefusals.{part_of_answer}
+use Rattle.sched_capture.proofs.departures.forward_own.Goals as goal
+
+pub returns-in-Ok-clause-ending : goal.returns-in-Ok-clause-ending
+returns-in-Ok-clause-ending g c =
+    let packets = c.in-Ok.packets in
+    let file = g.S.Shelf.left c.begin_one_link.new.shelf in
+    IfOk-weaker c.forward_own_packets.result _ _ (λ e all. in_told c.args.policy.now c.args.rate (g.S.Shelf.content c.args.shelf.now c.args.capture.now) (left_of packets file) (captures_of packets file) (link_of packets) _ (λ a. e ≡ a.ending)
+    (λ l captured known each. each (link_of packets) captured) (record { begins = c.in-Ok.ensures.begins; captures = c.in-Ok.ensures.captures; one = c.in-Ok.ensures.link }) all) c.forward_own_packets.ensures.ending
+
+pub returns-in-Ok-clause-text : goal.returns-in-Ok-clause-text
+returns-in-Ok-clause-text g c =
+    let packets = c.in-Ok.packets in
+    let file = g.S.Shelf.left c.begin_one_link.new.shelf in
+    on_ok_weaker c.forward_own_packets.result (λ all. in_told c.args.policy.now c.args.rate (g.S.Shelf.content c.args.shelf.now c.args.capture.now) (left_of packets file) (captures_of packets file) (link_of packets) _
+    (λ a. Appended (g.K.Sink.written c.args.sink.now) (g.K.Sink.written c.forward_own_packets.new.sink) a.text)
+    (λ l captured known each. each captured known) (record { begins = c.in-Ok.ensures.begins; captures = c.in-Ok.ensures.captures; one = c.in-Ok.ensures.link }) all) (rw c.in-Ok.ensures.unwritten at c.forward_own_packets.ensures.text)
+
+pub returns-in-Ok-clause-part : goal.returns-in-Ok-clause-part
+returns-in-Ok-clause-part g c =
+    let packets = c.in-Ok.packets in
+    let file = g.S.Shelf.left c.begin_one_link.new.shelf in
+    on_err_weaker c.forward_own_packets.result (λ all. in_told c.args.policy.now c.args.rate (g.S.Shelf.content c.args.shelf.now c.args.capture.now) (left_of packets file) (captures_of packets file) (link_of packets) _
+    (λ a. AppendedPrefix (g.K.Sink.written c.args.sink.now) (g.K.Sink.written c.forward_own_packets.new.sink) a.text)
+    (λ l captured known each. each captured known) (record { begins = c.in-Ok.ensures.begins; captures = c.in-Ok.ensures.captures; one = c.in-Ok.ensures.link }) all) (rw c.in-Ok.ensures.unwritten at c.forward_own_packets.ensures.part)
+
+pub returns-clause-part : goal.returns-clause-part
+returns-clause-part g c =
+    part_of_answer c.args.policy.now c.args.rate (g.S.Shelf.content c.args.shelf.now c.args.capture.now) (g.K.Sink.written c.args.sink.now) (g.K.Sink.written c.begin_one_link.new.sink) (rw c.in-Err-Err.field-0-is at c.in-Err-Err.ensures.part)

@@ -1,0 +1,36 @@
+use Rattle.std.proofs.Common.{◌∙◌, arith}
+use Rattle.std.proofs.lemmas.Result.{err_from_is_err_and}
+use Rattle.sched_packets.specs.CapturePackets.{left_of, captures_of, there}
+use Rattle.sched_capture.proofs.FromStart.{stand_at_start}
+use Rattle.sched_capture.proofs.RecordedRuns.{recorded_whole, recorded_ending, cut_amid}
+use Rattle.sched_capture.proofs.recorded.record_packets.Goals as goal
+
+pub play_events-requires-clause-stands : goal.play_events-requires-clause-stands
+play_events-requires-clause-stands g c =
+    let r = c.requires.start in
+    stand_at_start g.C.Scheduler.stands _ c.args.policy.now.policy _ _ _ r.policy_is (rw r.policy_is at r.set.accepted) r.stands
+
+pub returns-in_err-played-clause-part : goal.returns-in_err-played-clause-part
+returns-in_err-played-clause-part g c =
+    let p = err_from_is_err_and c.from_residual.result c.from_residual.ensures.1 in
+    let r = c.requires.start in
+    let packets = c.args.packets.now in
+    let file = g.S.Shelf.left c.args.shelf.now in
+    rw p.1 (cut_amid g.C.Scheduler g.W.Recorder g.met.W.Recorder.joined (captures_of packets file) c.args.policy.now.policy (rw r.policy_is at r.set.accepted) c.args.pace _ (omega (arith, r.fresh.none_came, r.fresh.none_asked)) r.stands
+    (left_of packets file) (there packets file) _ _ _ (rw r.policy_is at c.in_err-played.ensures.err))
+
+pub returns-clause-ending : goal.returns-clause-ending
+returns-clause-ending g c =
+    let r = c.requires.start in
+    let packets = c.args.packets.now in
+    let file = g.S.Shelf.left c.args.shelf.now in
+    recorded_ending g.C.Scheduler g.W.Recorder g.met.W.Recorder.joined (captures_of packets file) c.args.policy.now.policy (rw r.policy_is at r.set.accepted) c.args.pace _ (omega (arith, r.fresh.none_came, r.fresh.none_asked)) r.stands
+    (left_of packets file) _ _ (rw r.policy_is at (rw c.in-Some.is at c.in_ok-played.ensures.ok))
+
+pub returns-clause-recorded : goal.returns-clause-recorded
+returns-clause-recorded g c =
+    let r = c.requires.start in
+    let packets = c.args.packets.now in
+    let file = g.S.Shelf.left c.args.shelf.now in
+    recorded_whole g.C.Scheduler g.W.Recorder g.met.W.Recorder.joined (captures_of packets file) c.args.policy.now.policy (rw r.policy_is at r.set.accepted) c.args.pace _ (omega (arith, r.fresh.none_came, r.fresh.none_asked)) r.stands
+    (left_of packets file) (there packets file) _ _ (rw r.policy_is at (rw c.in-Some.is at c.in_ok-played.ensures.ok))

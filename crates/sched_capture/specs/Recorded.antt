@@ -1,0 +1,76 @@
+-- Runs whose outcomes are recorded in another form than a report.
+use Rattle.std.specs.Prelude.{◌≡◌, ◌⊎◌, ℕ, Bool, Option, None, Some, List, []}
+use Rattle.outside_core.specs.Written.{Appended, AppendedPrefix}
+use Rattle.policy_defs.specs.Policy.{Policy}
+use Rattle.sched_defs.specs.SourceState.{start}
+use Rattle.sched_defs.specs.Events.{Event, outcomes}
+use Rattle.sched_defs.specs.Packets.{Captured}
+use Rattle.sched_defs.specs.declared.ending.Ending.{Ending}
+use Rattle.sched_core.specs.declared.scheduler.Scheduler as scheduler
+use Rattle.sched_packets.specs.CapturePackets.{policy_of, given_by, IsReady}
+use Rattle.sched_packets.specs.declared.capture_packets.CapturePackets.{CapturePackets}
+use Rattle.sched_run.specs.declared.recorder.Recorder as recorder
+use Rattle.sched_run.specs.declared.run.Run.{Run}
+use Rattle.sched_run.specs.Recording.{Recording, Cutting}
+use Rattle.sched_run.specs.Frames.{IsSet}
+use Rattle.sched_run.specs.Stages.{IsFresh}
+use Rattle.sched_capture.specs.Answers.{RunAnswer}
+use Rattle.sched_capture.specs.declared.recorded.Recorded.{Recorded}
+use Rattle.sched_capture.specs.declared.recorded.Recorded.TheVariants.{Whole, Refused}
+
+-- the run has made no event, and its scheduler and queues represent the start of the policy
+pub record IsAtStart {C U N W : Type 0} (S : scheduler.Ghosts C U) (R : recorder.Ghosts W) (named : N → Policy) (policy : Policy) (run : Run C N W) (under : U) : Type 0 where
+  pub set : IsSet S R named run
+  pub fresh : IsFresh run.tally
+  pub policy_is : S.policy run.scheduler ≡ policy
+  pub stands : S.stands run.scheduler under (start policy)
+  pub no_pushes : S.pushes run.scheduler ≡ 0
+  pub no_departures : S.departures run.scheduler ≡ 0
+
+-- no packet was read yet, and each will get its class from this policy
+pub record AreUnread {S : Type 0} (policy : Policy) (packets : CapturePackets S) (begun : Bool) : Type 0 where
+  pub policy_is : policy_of packets ≡ policy
+  pub none_given : given_by packets ≡ 0
+  pub ready : IsReady packets begun
+
+-- the outcomes of these events from the start are recorded, the first of which has number 1, for
+-- some captured bytes of the packets
+abbrev pub AreRecorded : {W : Type 0} → (Captured → Recording W) → Policy → List Event → W → Option (List ℕ) → W → Option (List ℕ) → Type 0
+AreRecorded records policy events w a v b = (captured : Captured) × records captured w a policy 1 (outcomes policy events (start policy)) v b
+
+-- only a prefix of their record is written
+abbrev pub AreCutShort : {W : Type 0} → (Captured → Cutting W) → Policy → List Event → W → Option (List ℕ) → Option (List ℕ) → Type 0
+AreCutShort cuts policy events w a b = (captured : Captured) × cuts captured w a policy 1 (outcomes policy events (start policy)) b
+
+-- all events of the run were recorded, and more could be
+pub record IsWholeRun {W : Type 0} (R : recorder.Ghosts W) (policy : Policy) (answer : RunAnswer) (w : W) (a : Option (List ℕ)) (ending : Ending) (v : W) (b : Option (List ℕ)) : Type 0 where
+  pub ends : ending ≡ answer.ending
+  pub events : List Event
+  pub are : answer.events ≡ Some events
+  pub recorded : AreRecorded R.records policy events w a v b
+  pub live : R.live v
+
+-- the file is no capture: no run begins, and its fault line is written
+pub record IsRefusedRun (answer : RunAnswer) (a : Option (List ℕ)) (ending : Ending) (b : Option (List ℕ)) : Type 0 where
+  pub ends : ending ≡ answer.ending
+  pub none : answer.events ≡ None
+  pub text : Appended a b answer.text
+
+-- how a run with this answer ends, with a recorder in place of the report
+abbrev pub HasRecorded : {W : Type 0} → recorder.Ghosts W → Policy → RunAnswer → W → Option (List ℕ) → Recorded W → Option (List ℕ) → Type 0
+HasRecorded R policy answer w a (Whole ending v) b = IsWholeRun R policy answer w a ending v b
+HasRecorded R policy answer w a (Refused ending) b = IsRefusedRun answer a ending b
+
+-- the run was stopped: a prefix of what its events record is written, or of the fault line, or
+-- nothing
+abbrev pub IsPartOf : {W : Type 0} → recorder.Ghosts W → Policy → Option (List Event) → List ℕ → W → Option (List ℕ) → Option (List ℕ) → Type 0
+IsPartOf R policy None text w a b = AppendedPrefix a b text
+IsPartOf R policy (Some events) text w a b = AreCutShort R.cuts policy events w a b ⊎ Appended a b []
+
+abbrev pub HasRecordedPart : {W : Type 0} → recorder.Ghosts W → Policy → RunAnswer → W → Option (List ℕ) → Option (List ℕ) → Type 0
+HasRecordedPart R policy answer w a b = IsPartOf R policy answer.events answer.text w a b
+
+-- how a run ends
+abbrev pub ending_in : {W : Type 0} → Recorded W → Ending
+ending_in (Whole ending w) = ending
+ending_in (Refused ending) = ending
