@@ -102,7 +102,7 @@ class Prose(unittest.TestCase):
                 self.assert_right("    $ echo " + text)
 
     def test_words_that_are_like_them(self):
-        self.assert_right("Readers who rely on it see a placement, a link, a target and a way to do it in sched_held/behind.rt.",
+        self.assert_right("Readers who rely on it see a placement, a link, a target and a way to do it in sched_core/behind.rt.",
                           "The words are in tests/refused, as KIND and PLACE. Line `stands` is left, and comes to an end.")
 
     def test_messages(self):

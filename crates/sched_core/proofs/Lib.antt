@@ -1,3 +1,7 @@
+pub mod SlotLaws
+pub mod ChunkLaws
+pub mod NumberLaws
+pub mod HeldNumbers
 pub mod LeafNumbers
 pub mod Filling
 pub mod PoppedPackets

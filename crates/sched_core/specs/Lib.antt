@@ -1,3 +1,7 @@
+pub mod Slots
+pub mod Chunks
+pub mod Windows
+pub mod Held
 pub mod Standing
 pub mod Origins
 pub mod Spills

@@ -7,7 +7,7 @@ use Rattle.policy_defs.specs.Numbers.{number_at}
 use Rattle.sched_defs.specs.SourceState.{SourceState, filled}
 use Rattle.sched_core.specs.Agreement.{policy_of, AreStates}
 use Rattle.sched_core.specs.declared.policy_state.PolicyState.{PolicyState}
-use Rattle.sched_held.specs.Held.{held_at}
+use Rattle.sched_core.specs.Held.{held_at}
 use Rattle.sched_core.specs.Standing.{StandForOne, ForEachState}
 
 abbrev pub policy_in : PolicyState → Policy

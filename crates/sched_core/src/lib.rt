@@ -1,16 +1,20 @@
 //! Packet schedulers driven by a policy, over queues that another component owns: the variables of
-//! the policy's nodes, and the push and pop steps along a packet's path. Begin with
-//! src/scheduler.rt and specs/Standing.antt.
+//! the policy's nodes, the push and pop steps along a packet's path, and the queued packets by
+//! number (src/held.rt). Begin with src/scheduler.rt and specs/Standing.antt.
 #![tactic(auto)]
 
+mod chunk;
 mod direct;
 mod first;
+mod held;
 mod node_states;
 mod packet_path;
 mod path_node;
 mod policy_state;
 mod scheduler;
+mod slot;
 mod walk;
+mod window;
 
 pub use direct::Direct;
 pub use node_states::NodeStates;

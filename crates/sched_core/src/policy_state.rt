@@ -11,12 +11,12 @@ ghost use Rattle.sched_defs.specs.Events.{CanArrive};
 ghost use Rattle.sched_core.specs.Agreement.{HasFlowRoom};
 ghost use Rattle.sched_core.specs.Arrivals.{leaf_number};
 ghost use Rattle.sched_core.specs.Departures.{next_departed};
-ghost use Rattle.sched_held.specs.Held.{held_at};
+ghost use Rattle.sched_core.specs.Held.{held_at};
 
+use crate::held::Held;
 use crate::node_states::NodeStates;
 use packet_defs::{BLANK, Departed, Packet};
 use policy_core::Policy;
-use sched_held::Held;
 use std::alloc::{AllocError, Global};
 use tree_core::Taken;
 

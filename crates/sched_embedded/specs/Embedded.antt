@@ -6,7 +6,7 @@ use Rattle.embed_defs.specs.Lift.{IsLift}
 use Rattle.fabric_core.specs.declared.fabric.Fabric.{Ghosts}
 use Rattle.sched_defs.specs.SourceState.{SourceState}
 use Rattle.sched_defs.specs.Sound.{IsSound}
-use Rattle.sched_held.specs.Held.{held_at}
+use Rattle.sched_core.specs.Held.{held_at}
 use Rattle.sched_core.specs.Agreement.{AreStates}
 use Rattle.sched_core.specs.Origins.{Origin}
 use Rattle.sched_core.specs.Standing.{StandForOne}

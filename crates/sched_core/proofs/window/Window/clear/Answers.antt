@@ -1,0 +1,88 @@
+use Rattle.std.proofs.Common.{◌≡◌, ◌<◌, ◌+◌, ◌==◌, if◌then◌else◌, ℕ, Option, None, Some, is_some, length, set, sym, ap, ◌∙◌, arith}
+use Rattle.packet_defs.specs.declared.packet.Packet.{Packet}
+use Rattle.sched_core.specs.Chunks.{packet_of, packet_within, numbers_below}
+use Rattle.sched_core.specs.Windows.{packet_at}
+use Rattle.sched_core.proofs.SlotLaws.{if_other}
+use Rattle.sched_core.proofs.ChunkLaws.{taken, told}
+use Rattle.sched_core.proofs.NumberLaws.{below-same, below-without, found-below}
+use Rattle.sched_core.proofs.HeldNumbers.{was_empty}
+use Rattle.sched_core.proofs.window.Window.clear.Goals as goal
+use Rattle.sched_core.proofs.window.Window.clear.Goals.{After-take}
+
+-- the packets in the window before a chunk is asked for a packet, and after
+abbrev before : After-take → ℕ → Option Packet
+before c = packet_within c.args.self.now.first c.args.self.now.chunks.items
+
+abbrev after : After-take → ℕ → Option Packet
+after c = packet_within c.args.self.now.first (set c.args.self.now.chunks.items c.in-Some.i c.take.new.self)
+
+-- the chunk's packet under the number
+abbrev told_now : After-take → Option Packet
+told_now c = packet_of c.index_mut.result.now c.args.number
+
+-- ---- the chunk gives the window's packet under the number, and only that packet is gone
+stood : (c : After-take) → before c c.args.number ≡ told_now c
+stood c =
+    let w = c.args.self.now in
+    sym (told w.first w.chunks.items c.in-Some.i c.index_mut.result.now c.args.number (omega (arith, c.in-Some.ensures.within, w.chunks.ok)) c.in-Some.ensures.chunk c.index_mut.ensures.value)
+
+gone : (c : After-take) (n : ℕ) → after c n ≡ (if n == c.args.number then None else before c n)
+gone c n =
+    let w = c.args.self.now in
+    taken w.first w.chunks.items c.in-Some.i c.index_mut.result.now c.take.new.self c.args.number n (omega (arith, c.in-Some.ensures.within, w.chunks.ok)) c.in-Some.ensures.chunk c.index_mut.ensures.value (c.take.ensures.rest n)
+
+-- if there was no packet, all packets stay
+stay : (c : After-take) → told_now c ≡ None → (n : ℕ) → after c n ≡ before c n
+stay c none n = was_empty n c.args.number (before c n) (after c n) (gone c n) (λ same. ap (before c) same ∙ stood c ∙ none)
+
+-- if there was a packet, its number was below the end, and one fewer is in the window
+near : (c : After-take) → told_now c ≡ Some c.take.new.packet → c.args.number < c.args.self.now.end
+near c some = found-below (before c) c.args.self.now.end c.args.number (ap is_some (stood c ∙ some)) c.args.self.now.behind
+
+fewer : (c : After-take) → told_now c ≡ Some c.take.new.packet → length (numbers_below (after c) c.args.self.now.end) + 1 ≡ c.args.self.now.filled
+fewer c some = below-without (before c) (after c) c.args.number c.args.self.now.end (near c some) (ap is_some (stood c ∙ some)) (gone c) ∙ sym c.args.self.now.counted
+
+pub invariant_of-self : goal.invariant_of-self
+invariant_of-self c =
+    let w = c.args.self.now in
+    let t = (goal.at.invariant_of-self c).After-take in
+    let same = stay t c.if-not-take.ensures.value in
+    record {
+      low = w.low;
+      ends = w.ends;
+      behind = λ n far. same n ∙ w.behind n far;
+      counted = w.counted ∙ sym (ap length (below-same (after t) (before t) w.end (λ n l. same n)));
+    }
+
+pub returns-then-not-take-clause-value : goal.returns-then-not-take-clause-value
+unfolding packet_at
+returns-then-not-take-clause-value c = stood (goal.at.returns-then-not-take-clause-value c).After-take ∙ c.if-not-take.ensures.value
+
+pub returns-then-not-take-clause-packets : goal.returns-then-not-take-clause-packets
+unfolding packet_at
+returns-then-not-take-clause-packets c = gone (goal.at.returns-then-not-take-clause-packets c).After-take
+
+pub overflow_sub-self : goal.overflow_sub-self
+overflow_sub-self c = omega (arith, fewer (goal.at.overflow_sub-self c).After-take c.if-not-take.ensures.value)
+
+pub invariant_of-self-2 : goal.invariant_of-self-2
+invariant_of-self-2 c =
+    let w = c.args.self.now in
+    let t = (goal.at.invariant_of-self-2 c).After-take in
+    record {
+      low = w.low;
+      ends = w.ends;
+      behind = λ n far. gone t n ∙ if_other n c.args.number None (before t n) (omega (arith, far, near t c.if-not-take.ensures.value)) ∙ w.behind n far;
+      counted = omega (arith, fewer t c.if-not-take.ensures.value);
+    }
+
+pub returns-clause-value : goal.returns-clause-value
+unfolding packet_at
+returns-clause-value c = stood (goal.at.returns-clause-value c).After-take ∙ c.if-not-take.ensures.value
+
+pub returns-clause-packets : goal.returns-clause-packets
+unfolding packet_at
+returns-clause-packets c = λ n. c.trim.ensures.packets n ∙ gone (goal.at.returns-clause-packets c).After-take n
+
+pub returns-clause-fewer : goal.returns-clause-fewer
+returns-clause-fewer c = λ _. omega (arith, c.trim.ensures.filled, fewer (goal.at.returns-clause-fewer c).After-take c.if-not-take.ensures.value)

@@ -1,0 +1,13 @@
+use Rattle.std.proofs.Common.{◌≡◌, ◌+◌, ◌-◌, ℕ}
+use Rattle.std.specs.VecDeque.{deque_len}
+use Rattle.sched_core.specs.Windows.{packet_at, end_of}
+use Rattle.sched_core.proofs.window.Window.lengthen.Given as goal
+
+abbrev pub invariant-loop-self : goal.invariant-loop-self
+invariant-loop-self l = record {
+  packets : (n : ℕ) → packet_at l.self n ≡ packet_at l.fn.self n;
+  end : end_of l.self ≡ end_of l.fn.self;
+}
+
+abbrev pub decreases-loop-self : goal.decreases-loop-self
+decreases-loop-self l = l.last + 1 - (l.self.first + deque_len l.self.chunks)

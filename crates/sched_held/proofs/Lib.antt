@@ -1,4 +1,0 @@
-pub mod SlotLaws
-pub mod ChunkLaws
-pub mod NumberLaws
-pub mod HeldNumbers

@@ -1,8 +1,0 @@
-use Rattle.std.proofs.Common.{◌≡◌, nat_eq, None, ap₂, rules}
-use Rattle.indexmap.specs.IndexMap.{get}
-use Rattle.sched_held.specs.Held.{held_at, or_stray}
-use Rattle.sched_held.proofs.held.Held.new.Goals as goal
-
-pub returns : goal.returns
-unfolding held_at
-returns c = record { empty = λ n. let none : get nat_eq c.new-2.result n ≡ None = search rules in ap₂ or_stray (c.new.ensures.empty n) none }

@@ -1,4 +1,0 @@
-pub mod Slots
-pub mod Chunks
-pub mod Windows
-pub mod Held
