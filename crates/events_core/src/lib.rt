@@ -13,7 +13,7 @@ mod step;
 
 pub use fault::ScriptFault;
 pub use laws::scripts_have_an_answer;
-pub use link::{Link, MOST_OVERHEAD, MOST_RATE, send_time};
+pub use link::{Link, MOST_OVERHEAD, MOST_RATE, send_time, send_time_at};
 pub use load::Load;
 pub use parse::{MOST_BYTES, MOST_COUNT, parse_events};
 pub use script::Script;

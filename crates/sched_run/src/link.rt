@@ -32,7 +32,7 @@ fn take_time(link: &mut Link, departed: Option<Departed>, rate: LinkRate)
     ensures soon { link.new ≤ link.old + 2 ^ 62 }
 {
     if let Some(departed) = departed {
-        link.send(departed.len, rate);
+        link.send_at(departed.len, rate);
     }
 }
 
