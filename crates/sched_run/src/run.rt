@@ -51,7 +51,7 @@ impl<'a, C: Drop, N, W: Drop> Run<'a, C, N, W> {
 
     /// Ends the run, and returns its recorder.
     pub fn into_recorder(self) -> W
-        ensures { result ≡ self.recorder }
+        ensures { result ≡ self.entry.recorder }
     {
         self.recorder
     }
