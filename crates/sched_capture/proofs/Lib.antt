@@ -10,4 +10,3 @@ pub mod RunnablePolicies
 pub mod PacketRanges
 pub mod FilesReadBack
 pub mod SentRecords
-pub mod RecordedRuns

@@ -3,7 +3,6 @@ pub mod Placements
 pub mod Loads
 pub mod Laws
 pub mod Forwards
-pub mod Recorded
 pub mod Rows
 pub mod Forwarding
 pub mod JoinedRecords

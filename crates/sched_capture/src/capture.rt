@@ -92,7 +92,7 @@ pub fn begin<'a, S: Shelf, K: Sink>(
 
 /// Returns a run without events, through the policy's own tree of queues, with this recorder, and
 /// that tree. The error means out of memory.
-pub(crate) fn direct_run<'a, W: Recorder>(
+pub fn direct_run<'a, W: Recorder>(
     alloc: Global,
     policy: &'a Policy,
     recorder: W,

@@ -81,7 +81,7 @@ fn scheduler_through<'a, F: Fabric>(
 
 /// Returns a run without events, through a fabric into which the policy's tree is laid, with this
 /// recorder. The fabric takes the target's shape. The error means out of memory.
-pub(crate) fn run_through<'a, F: Fabric, W: Recorder>(
+pub fn run_through<'a, F: Fabric, W: Recorder>(
     alloc: Global,
     policy: &'a Policy,
     placement: Placement,

@@ -29,9 +29,9 @@ use Rattle.sched_run.specs.Courses.{course_of, IsCourse, Courses}
 use Rattle.sched_run.specs.Steps.{pace_of}
 use Rattle.sched_run.proofs.StartLaws.{start_can_begin}
 use Rattle.sched_capture.specs.Answers.{RunAnswer, IsRefusal, IsRefusalPart, answer_of, answer_over, paced_answer}
-use Rattle.sched_capture.specs.Recorded.{AreRecorded, AreCutShort, IsPartOf, HasRecorded, HasRecordedPart}
-use Rattle.sched_capture.specs.declared.recorded.Recorded.{Recorded}
-use Rattle.sched_capture.specs.declared.recorded.Recorded.TheVariants.{Whole, Refused}
+use Rattle.study.specs.Recorded.{AreRecorded, AreCutShort, IsPartOf, HasRecorded, HasRecordedPart}
+use Rattle.study.specs.declared.recorded.Recorded.{Recorded}
+use Rattle.study.specs.declared.recorded.Recorded.TheVariants.{Whole, Refused}
 
 -- ---- over the packets left
 module _ {C U W : Type 0} (S : Ghosts C U) (R : recorder.Ghosts W) (laws : (captured : Captured) → AreJoined (R.records captured) (R.cuts captured)) (H : Captured → Type 0) (policy : Policy) (accepted : IsAccepted policy) (pace : code.Pace)
@@ -51,10 +51,11 @@ module _ {C U W : Type 0} (S : Ghosts C U) (R : recorder.Ghosts W) (laws : (capt
           let sound = sound_start policy accepted in
           let below = (start_can_begin policy old.given).held in
           let are : courses.events ≡ events_over l = (told (start policy) sound stood below).are ∙ ap (λ (n : ℕ). (course_of policy pace l (start policy) n).events) one in
-          let played = courses.made.played (start policy) sound stood below in
-          (known.0,
+          let played = courses.made.played (start policy) sound stood below in (
+            known.0,
             subst (λ (es : List Event). R.records known.0 old.recorder old.written policy 1 (outcomes policy es (start policy)) new.recorder new.written) are
-            (subst (λ (n : ℕ). R.records known.0 old.recorder old.written policy n (outcomes policy courses.events (start policy)) new.recorder new.written) one (played.recorded known.0 known.1)))
+                (subst (λ (n : ℕ). R.records known.0 old.recorder old.written policy n (outcomes policy courses.events (start policy)) new.recorder new.written) one (played.recorded known.0 known.1)),
+          )
 
   pub recorded_ending : (left : Option Left) (e : Ending) (new : Stage C U W) → Courses S (heard R H) policy (course_of policy pace) e left old new
       → IfSome left (λ l. e ≡ (answer_of policy (pace_of pace) l.packets l.fault).ending)

@@ -15,8 +15,8 @@ use Rattle.sched_run.specs.Recording.{Recording, Cutting}
 use Rattle.sched_run.specs.Frames.{IsSet}
 use Rattle.sched_run.specs.Stages.{IsFresh}
 use Rattle.sched_capture.specs.Answers.{RunAnswer}
-use Rattle.sched_capture.specs.declared.recorded.Recorded.{Recorded}
-use Rattle.sched_capture.specs.declared.recorded.Recorded.TheVariants.{Whole, Refused}
+use Rattle.study.specs.declared.recorded.Recorded.{Recorded}
+use Rattle.study.specs.declared.recorded.Recorded.TheVariants.{Whole, Refused}
 
 -- the run has made no event, and its scheduler and queues represent the start of the policy
 pub record IsAtStart {C U N W : Type 0} (S : scheduler.Ghosts C U) (R : recorder.Ghosts W) (named : N → Policy) (policy : Policy) (run : Run C N W) (under : U) : Type 0 where

@@ -12,14 +12,12 @@ ghost use Rattle.sched_packets.specs.CapturePackets.{left_of};
 ghost use Rattle.sched_run.specs.Courses.{course_of};
 ghost use Rattle.sched_run.specs.Steps.{pace_of, IsBounded, CanEndSo};
 ghost use Rattle.sched_capture.specs.Answers.{answer_of, paced_answer};
-ghost use Rattle.sched_capture.specs.Recorded.{IsAtStart, AreUnread, AreRecorded, AreCutShort, HasRecorded, HasRecordedPart, ending_in};
+ghost use Rattle.study.specs.Recorded.{IsAtStart, AreUnread, AreRecorded, AreCutShort, HasRecorded, HasRecordedPart, ending_in};
 
-use crate::capture::{begin, direct_run};
-use crate::fabric::{Placement, run_through};
-use crate::task::Task;
 use fabric_core::Fabric;
 use outside_core::{Shelf, Sink, Stop};
 use policy_core::Policy;
+use sched_capture::{Placement, Task, begin, direct_run, run_through};
 use sched_core::Scheduler;
 use sched_defs::Ending;
 use sched_packets::CapturePackets;
@@ -87,17 +85,17 @@ fn record_over<C: Scheduler + Drop, S: Shelf, K: Sink, W: DepartureRecorder>(
     shelf: &mut S,
     sink: &mut K,
 ) -> Result<Recorded<W>, Stop>
-    requires start { IsAtStart C.Scheduler W.Recorder (λ p. p.policy) policy.now.policy run under.old }
+    requires start { IsAtStart C.Scheduler W.Recorder (λ p. p.policy) policy.now.policy run.entry under.old }
     requires endless { (w : W) → W.over w ≡ false }
     requires lent { IsTrue (S.lends shelf.old task.now.capture.now) }
     requires bounded { IsBounded task.now.pace }
 
     ensures recorded { IfOk result (λ r. IfSome (S.content shelf.old task.now.capture.now) (λ file.
         HasRecorded W.Recorder policy.now.policy (paced_answer policy.now (pace_of task.now.pace) file)
-        run.recorder (K.written sink.old) r (K.written sink.new))) }
+        run.entry.recorder (K.written sink.old) r (K.written sink.new))) }
     ensures part { OnErr result (IfSome (S.content shelf.old task.now.capture.now) (λ file.
         HasRecordedPart W.Recorder policy.now.policy (paced_answer policy.now (pace_of task.now.pace) file)
-        run.recorder (K.written sink.old) (K.written sink.new))) }
+        run.entry.recorder (K.written sink.old) (K.written sink.new))) }
     ensures ends { IfOk result (λ r. CanEndSo task.now.pace (ending_in r)) }
     ensures sink_cause { IsErrOf result Stop.Sink → Rose (K.faults sink.old) (K.faults sink.new) }
     ensures source_cause { IsErrOf result Stop.Source → Rose (S.faults shelf.old)
