@@ -32,6 +32,7 @@ pub use laws::{replay_reports_what_direct_reports, words_have_an_answer, words_h
 pub use policies::{Judged, read_policy};
 pub use refusal::{Read, Refusal};
 pub use sched_run::depart_line;
+pub use scripts::read_script;
 pub use status::Status;
 pub use stop::stop_status;
 pub use targets::{NO_ROOM, read_target_file};
