@@ -25,6 +25,7 @@ use Rattle.mapcheck_core.specs.TreeTexts.{IsTreeText, tree, one_tree}
 use Rattle.events_core.specs.Script.{IsScript, next, over}
 use Rattle.events_core.specs.declared.step.Step.TheVariants as line
 use Rattle.sched_defs.specs.Events.{Arrive, Depart}
+use Rattle.sched_defs.specs.SendTime.{plain_rate}
 use Rattle.sched_defs.specs.Pace.{Link}
 use Rattle.sched_embedded.specs.Laid.{Laid}
 use Rattle.tap_core.specs.Lists.{Entry, departed}
@@ -102,7 +103,7 @@ unfolding digits capture_of head_of front_of records_from
 direct_alone = refl
 
 -- a link reports when each departure starts, in nanoseconds
-link_at_60_bytes_a_second : laid_run fifo alone (Link 60) capture []
+link_at_60_bytes_a_second : laid_run fifo alone (Link (plain_rate 60)) capture []
     ≡ record {
       status = 0;
       text = codes "a 1 1 root 0\nd 2 1 root 0 1000000000\nend pushed 1 popped 1 empty 0 held 0 unsent 0\n";

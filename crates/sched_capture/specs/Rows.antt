@@ -11,6 +11,7 @@ use Rattle.policy_defs.specs.Policy.{no_marks, one_leaf}
 use Rattle.policy_rules.specs.Resolved.{Resolved}
 use Rattle.sched_defs.specs.Events.{Arrive, Depart}
 use Rattle.sched_defs.specs.Script.{Departures, Rest}
+use Rattle.sched_defs.specs.SendTime.{plain_rate}
 use Rattle.sched_defs.specs.Pace.{Script, Link}
 use Rattle.sched_defs.specs.declared.ending.Ending.TheVariants as run
 use Rattle.tap_core.specs.Lists.{departed}
@@ -56,7 +57,7 @@ with_another_link = holds (record { packets = captured 147 1000000000 1 ∷ capt
 -- ---- forwarded
 -- the answer at 60 bytes per second
 abbrev forwarded : FileContents → ForwardAnswer
-forwarded file = forward_over one_class 60 147 (one_link_in file)
+forwarded file = forward_over one_class (plain_rate 60) 147 (one_link_in file)
 
 -- the second packet starts when the first is sent, a second after it arrived
 forwarded-whole : forwarded at_once ≡ record {
@@ -91,7 +92,7 @@ forwarded-late : forwarded (holds (record { packets = captured 147 4294967296000
 forwarded-late = refl
 
 -- a file without packets gives a header with link type 0
-forwarded-none : forward_over one_class 60 0 (one_link_in (holds (record { packets = []; fault = None }))) ≡ record { ending = Whole; text = header_bytes 0; events = Some [] }
+forwarded-none : forward_over one_class (plain_rate 60) 0 (one_link_in (holds (record { packets = []; fault = None }))) ≡ record { ending = Whole; text = header_bytes 0; events = Some [] }
 forwarded-none = refl
 
 pub forwarded-refused : forwarded (holds (record { packets = []; fault = Some (record { code = 6; place = 1 }) })) ≡ record { ending = BadCapture 6 1; text = codes "fault capture 6 1\n"; events = None }
@@ -109,12 +110,12 @@ abbrev sent_whole : ℕ → ℕ → List ℕ
 sent_whole seconds last =
     (seconds ∷ 0 ∷ 0 ∷ 0 ∷ 0 ∷ 0 ∷ 0 ∷ 0 ∷ []) ++ (4 ∷ 0 ∷ 0 ∷ 0 ∷ 4 ∷ 0 ∷ 0 ∷ 0 ∷ []) ++ (0 ∷ 0 ∷ 0 ∷ last ∷ [])
 
-pub forwarded-file : (forward_answer one_class 4 two_packets_file).text ≡ header_bytes 147 ++ sent_whole 1 1 ++ sent_whole 2 2
+pub forwarded-file : (forward_answer one_class (plain_rate 4) two_packets_file).text ≡ header_bytes 147 ++ sent_whole 1 1 ++ sent_whole 2 2
 unfolding capture_of head_of front_of records_from
 forwarded-file = refl
 
 -- 24 bytes without a magic number
-pub forwarded-no_capture : forward_answer one_class 4 (replicate 24 0) ≡ record { ending = BadCapture 2 0; text = codes "fault capture 2 0\n"; events = None }
+pub forwarded-no_capture : forward_answer one_class (plain_rate 4) (replicate 24 0) ≡ record { ending = BadCapture 2 0; text = codes "fault capture 2 0\n"; events = None }
 unfolding capture_of head_of digits
 forwarded-no_capture = refl
 
@@ -130,7 +131,7 @@ scripted-events : (scripted at_once).events ≡ Some (Arrive (arrival 1 10000000
 scripted-events = refl
 
 -- packets of several link types are run
-pub linked-another_link : (answer_over one_class (Link 60) with_another_link).text
+pub linked-another_link : (answer_over one_class (Link (plain_rate 60)) with_another_link).text
     ≡ codes "a 1 1 root 0\nd 2 1 root 0 1000000000\na 3 2 root 0\nd 4 2 root 0 2000000000\na 5 3 root 0\nd 6 3 root 0 3000000000\nend pushed 3 popped 3 empty 0 held 0 unsent 0\n"
 unfolding digits
 linked-another_link = refl

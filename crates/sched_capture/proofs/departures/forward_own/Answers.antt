@@ -29,6 +29,6 @@ returns-in-Ok-clause-part g c =
     (λ a. AppendedPrefix (g.K.Sink.written c.args.sink.now) (g.K.Sink.written c.forward_own_packets.new.sink) a.text)
     (λ l captured known each. each captured known) (record { begins = c.in-Ok.ensures.begins; captures = c.in-Ok.ensures.captures; one = c.in-Ok.ensures.link }) all) (rw c.in-Ok.ensures.unwritten at c.forward_own_packets.ensures.part)
 
-pub returns-clause-part : goal.returns-clause-part
-returns-clause-part g c =
+pub returns-in-Err-Err-clause-part : goal.returns-in-Err-Err-clause-part
+returns-in-Err-Err-clause-part g c =
     part_of_answer c.args.policy.now c.args.rate (g.S.Shelf.content c.args.shelf.now c.args.capture.now) (g.K.Sink.written c.args.sink.now) (g.K.Sink.written c.begin_one_link.new.sink) (rw c.in-Err-Err.field-0-is at c.in-Err-Err.ensures.part)
