@@ -13,6 +13,7 @@ use Rattle.policy_rules.specs.Resolved.{Resolved}
 use Rattle.sched_defs.specs.Events.{Event}
 use Rattle.sched_defs.specs.Pace.{Pace, Link}
 use Rattle.sched_defs.specs.declared.rate.LinkRate.{LinkRate}
+use Rattle.sched_defs.specs.SendTime.{plain_rate}
 use Rattle.sched_core.specs.Spills.{raised}
 use Rattle.sched_embedded.specs.Fabrics.{FabricRun, run_of, Leaves, LeavesPart, HoldsAfter}
 use Rattle.sched_embedded.specs.Laid.{Laid}
@@ -88,8 +89,8 @@ behind_script watching policy l name capture contents a is =
 
 behind_room : (watching : List Entry) (policy : Resolved) (l : Laid) (pacing : Pacing) (capture : List ℕ) (contents : List ℕ → List ℕ) (a : Answer) → BehindRoom watching policy l pacing capture contents a → HasRun a
 behind_room watching policy l (script e named) capture contents a is = behind_script watching policy l e capture contents a is
-behind_room watching policy l (link rate) capture contents a is = laid policy l (Link rate) (contents capture) watching a is
-behind_room watching policy l (forward rate) capture contents a is = sent policy l rate (contents capture) a is
+behind_room watching policy l (link rate) capture contents a is = laid policy l (Link (plain_rate rate)) (contents capture) watching a is
+behind_room watching policy l (forward rate) capture contents a is = sent policy l (plain_rate rate) (contents capture) a is
 
 behind_target : (watching : List Entry) (policy : Resolved) (target : Target) (pacing : Pacing) (capture : List ℕ) (contents : List ℕ → List ℕ) (a : Answer) → BehindTarget watching policy target pacing capture contents a → HasRun a
 behind_target watching policy target pacing capture contents a is =
