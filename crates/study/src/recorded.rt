@@ -46,7 +46,8 @@ fn record_packets<C: Scheduler + Drop, S: Shelf, K: Sink, W: DepartureRecorder>(
     shelf: &mut S,
     sink: &mut K,
 ) -> Result<Ending, Stop>
-    requires start { IsAtStart C.Scheduler W.Recorder (λ p. p.policy) policy.now.policy run.old under.old }
+    requires start { IsAtStart C.Scheduler W.Recorder (λ p. p.policy) policy.now.policy run.old
+        under.old }
     requires endless { (w : W) → W.over w ≡ false }
     requires unread { AreUnread policy.now.policy packets.old (S.begun shelf.old) }
     requires bounded { IsBounded pace }
@@ -85,7 +86,8 @@ fn record_over<C: Scheduler + Drop, S: Shelf, K: Sink, W: DepartureRecorder>(
     shelf: &mut S,
     sink: &mut K,
 ) -> Result<Recorded<W>, Stop>
-    requires start { IsAtStart C.Scheduler W.Recorder (λ p. p.policy) policy.now.policy run.entry under.old }
+    requires start { IsAtStart C.Scheduler W.Recorder (λ p. p.policy) policy.now.policy run
+        under.old }
     requires endless { (w : W) → W.over w ≡ false }
     requires lent { IsTrue (S.lends shelf.old task.now.capture.now) }
     requires bounded { IsBounded task.now.pace }

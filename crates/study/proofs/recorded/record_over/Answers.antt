@@ -1,7 +1,16 @@
-use Rattle.std.proofs.Common.{arith}
-use Rattle.std.proofs.lemmas.Result.{IfOk-weaker, err_from_is_err_and}
+use Rattle.std.proofs.lemmas.Result.{err_from_is_err_and}
 use Rattle.sched_packets.specs.CapturePackets.{left_of}
-use Rattle.sched_run.specs.Steps.{IsNoPastLast, CanEndSo}
-use Rattle.sched_capture.proofs.FileRuns.{can_end, sink_rose, source_rose}
-use Rattle.study.proofs.RecordedRuns.{whole_over_file, part_over_file, refused_over_file, refused_part_over_file}
+use Rattle.study.proofs.RecordedRuns.{whole_over_file, part_over_file}
 use Rattle.study.proofs.recorded.record_over.Goals as goal
+
+pub returns-in_err-ending-in-Ok-clause-part : goal.returns-in_err-ending-in-Ok-clause-part
+returns-in_err-ending-in-Ok-clause-part g c =
+    let p = err_from_is_err_and c.from_residual.result c.from_residual.ensures.1 in
+    rw p.1 (part_over_file g.W.Recorder c.args.policy.now c.args.task.now.pace c.args.run.recorder (g.S.Shelf.content c.args.shelf.now c.args.task.now.capture.now) (left_of c.in-Ok.packets (g.S.Shelf.left c.begin.new.shelf)) _ _
+    c.in-Ok.ensures.begins (rw c.in-Ok.ensures.unwritten at c.in_err-ending-in-Ok.ensures.part))
+
+pub returns-in-Ok-clause-recorded : goal.returns-in-Ok-clause-recorded
+returns-in-Ok-clause-recorded g c =
+    let e = c.in_ok-ending-in-Ok.ensures in
+    rw c.into_recorder.ensures (whole_over_file g.W.Recorder c.args.policy.now c.args.task.now.pace c.args.run.recorder (g.S.Shelf.content c.args.shelf.now c.args.task.now.capture.now) (left_of c.in-Ok.packets (g.S.Shelf.left c.begin.new.shelf)) _ _ _ _
+    c.in-Ok.ensures.begins e.ending (rw c.in-Ok.ensures.unwritten at e.recorded) e.live)

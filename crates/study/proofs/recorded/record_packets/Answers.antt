@@ -1,4 +1,4 @@
-use Rattle.std.proofs.Common.{◌∙◌, arith}
+use Rattle.std.proofs.Common.{arith}
 use Rattle.std.proofs.lemmas.Result.{err_from_is_err_and}
 use Rattle.sched_packets.specs.CapturePackets.{left_of, captures_of, there}
 use Rattle.sched_capture.proofs.FromStart.{stand_at_start}
