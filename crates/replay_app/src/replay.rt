@@ -200,7 +200,10 @@ fn replay_paced<S: Shelf, K: Sink, F: Fabric, T: Tap>(
             replay_script(alloc, policy, placement, &names, shelf, sink, fabric, watch)
         }
         Pacing::Link(rate) => {
-            let pace = Pace::Link(LinkRate::plain(rate));
+            let pace = Pace::Link(LinkRate {
+                bytes: rate,
+                overhead: 0,
+            });
             let capture = files.capture;
             let task = Task { pace, capture };
             replay_capture(alloc, policy, placement, &task, shelf, sink, fabric, watch)
@@ -210,7 +213,10 @@ fn replay_paced<S: Shelf, K: Sink, F: Fabric, T: Tap>(
             policy,
             placement,
             files.capture,
-            LinkRate::plain(rate),
+            LinkRate {
+                bytes: rate,
+                overhead: 0,
+            },
             shelf,
             sink,
             fabric,
