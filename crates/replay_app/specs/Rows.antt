@@ -114,7 +114,7 @@ unfolding digits capture_of head_of front_of records_from
 link_at_60_bytes_a_second = refl
 
 -- the departure as a capture with timestamps in nanoseconds; taps are shown nothing
-forward_at_60_bytes_a_second : forward_run fifo alone 60 capture
+forward_at_60_bytes_a_second : forward_run fifo alone (plain_rate 60) capture
     ≡ record {
       status = 0;
       text = fine_capture;
