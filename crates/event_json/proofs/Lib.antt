@@ -1,0 +1,5 @@
+pub mod NumberLists
+pub mod OneLine
+pub mod WholeRuns
+pub mod ReadLines
+pub mod ReadOutcomes
