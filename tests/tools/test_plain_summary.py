@@ -5,7 +5,7 @@ import unittest
 
 import plain_summary as plain
 
-POLICY = "policy 2\nclass a\nleaf one using fifo weight 2 classes a\nleaf two using fifo classes b\n"
+POLICY = "policy 2\nclass a\nclass b\nleaf one using fifo weight 2 classes a\nleaf two using fifo classes b\n"
 
 # Two packets of leaf one and one of leaf two, on a link that sends a byte a nanosecond.
 REPORT = """a 1 1 one 0
@@ -50,25 +50,53 @@ def random_run(draw, count):
     return "\n".join(lines), packets, delays, most, free
 
 
+# The same run as JSON lines, as far as the sums need them.
+JSON_LINES = """{"kind":"arrive","event":1,"packet":1,"leaf":"one","class":1,"bytes":100,"timestamp":0,"ranks":[0]}
+{"kind":"arrive","event":2,"packet":2,"leaf":"one","class":1,"bytes":50,"timestamp":50,"ranks":[0]}
+{"kind":"drop","event":3,"packet":3,"leaf":"one","class":1,"bytes":70,"timestamp":60}
+{"kind":"arrive","event":4,"packet":4,"leaf":"two","class":2,"bytes":300,"timestamp":100,"ranks":[0]}
+{"kind":"depart","event":5,"packet":1,"leaf":"one","class":1,"bytes":100,"ranks":[0],"start":100,"finish":200}
+{"kind":"depart","event":6,"packet":4,"leaf":"two","class":2,"bytes":300,"ranks":[0],"start":200,"finish":500}
+{"kind":"depart","event":7,"packet":2,"leaf":"one","class":1,"bytes":50,"ranks":[0],"start":500,"finish":550}
+{"kind":"end","arrived":3,"departed":3,"dropped":1,"empty":0,"queued":0,"unread":0}
+"""
+
+ONE = """: 2 packets departed, 1 dropped, 0 queued; 150 bytes; 272727272 bytes a second
+  delay in ns: least 100, median 100, 95 % 450, 99 % 450, greatest 450, mean 275; jitter 350
+  backlog: at most 2 packets, at most 150 bytes
+"""
+TWO = """: 1 packets departed, 0 dropped, 0 queued; 300 bytes; 750000000 bytes a second
+  delay in ns: least 100, median 100, 95 % 100, 99 % 100, greatest 100, mean 100
+  backlog: at most 1 packets, at most 300 bytes
+"""
+TEXT = """all: 3 packets departed, 1 dropped, 0 queued; 450 bytes; 818181818 bytes a second
+  delay in ns: least 100, median 100, 95 % 450, 99 % 450, greatest 450, mean 216; jitter 175
+  backlog: at most 3 packets, at most 450 bytes
+""" + "leaf one" + ONE + "leaf two" + TWO + "class a" + ONE + "class b" + TWO + "fairness of the leaves by weight (Jain): 0.735294\n"
+
+
 class Worked(unittest.TestCase):
     def test_a_run_of_two_leaves(self):
         capture = capture_of([(100, 0), (50, 50), (70, 60), (300, 100)])
-        found = plain.summary(REPORT, capture, POLICY, 10**9)
-        one = found["leaves"]["one"]
-        self.assertEqual((2, 2, 1, 150), tuple(one[k] for k in ("packets_arrived", "packets_departed", "packets_dropped", "bytes")))
-        self.assertEqual((2, 150), (one["backlog_packets_most"], one["backlog_bytes_most"]))
-        self.assertEqual((100, 100, 450, 450), tuple(one["delay_ns_" + k] for k in ("least", "median", "p95", "greatest")))
-        self.assertEqual((350, 1, 550), (one["jitter_ns_sum"], one["jitter_count"], one["span_ns"]))
-        self.assertEqual((3, 450), (found["all"]["backlog_packets_most"], found["all"]["backlog_bytes_most"]))
-        self.assertEqual(((75 + 300) ** 2, 2 * (75**2 + 300**2)), (found["jain_numerator"], found["jain_denominator"]))
+        self.assertEqual(TEXT, plain.text(plain.summary(REPORT, capture, POLICY, 10**9)))
+        self.assertEqual(TEXT, plain.text(plain.summary(JSON_LINES, capture, POLICY, 10**9)))
+
+    def test_json(self):
+        found = plain.as_json(plain.summary("a 1 1 one 0\nd 2 1 one 0\ne 3\n", capture_of([(9, 5)]), POLICY, 1))
+        self.assertTrue(found.startswith(
+            '{"all":{"arrived":1,"departed":1,"dropped":0,"queued":0,"bytes":9,"throughput":null,"delay":null,"jitter":null,'
+            '"most_queued":1,"most_queued_bytes":9},"leaves":[{"name":"one","arrived":1,'))
+        self.assertTrue(found.endswith('}],"jain":1.000000}\n'))
+
+    def test_no_index(self):
+        self.assertEqual("no bytes departed", plain.summary("", capture_of([]), POLICY, 1)["jain"])
 
     def test_ranks_of_percentiles(self):
         self.assertEqual([3, 1, 19, 20], [plain.percentile(range(1, n + 1), p) for n, p in ((5, 50), (2, 50), (20, 95), (20, 99))])
 
     def test_a_script_has_no_delays(self):
         found = plain.summary("a 1 1 one 0\nd 2 1 one 0\ne 3\n", capture_of([(9, 5)]), POLICY, 1)
-        self.assertEqual(9, found["all"]["bytes"])
-        self.assertNotIn("delay_ns_sum", found["all"])
+        self.assertEqual((9, None, None), tuple(found["all"][key] for key in ("bytes", "delay", "throughput")))
 
 
 class Made(unittest.TestCase):
@@ -77,11 +105,11 @@ class Made(unittest.TestCase):
         for _ in range(200):
             report, packets, delays, most, free = random_run(draw, draw.randrange(1, 40))
             found = plain.summary(report, capture_of(packets), "policy 1\nclass a\nleaf root using fifo classes a\n", 10**9)["all"]
-            self.assertEqual(sum(delays), found["delay_ns_sum"])
-            self.assertEqual(most, found["backlog_packets_most"])
-            self.assertEqual(free - packets[0][1], found["span_ns"])
+            self.assertEqual(sum(delays) // len(delays), found["delay"]["mean"])
+            self.assertEqual(most, found["most_queued"])
+            self.assertEqual(found["bytes"] * 10**9 // (free - packets[0][1]), found["throughput"])
             ordered = sorted(delays)
-            self.assertEqual(ordered[-(-len(ordered) * 95 // 100) - 1], found["delay_ns_p95"])
+            self.assertEqual(ordered[-(-len(ordered) * 95 // 100) - 1], found["delay"]["p95"])
 
 
 if __name__ == "__main__":
