@@ -1,5 +1,5 @@
 -- The sums of a group of packets, event by event.
-use Rattle.std.specs.Prelude.{◌<◌, ◌^◌, ℕ, ◌+◌, ◌-◌, ◌*◌, ◌/◌, ◌==◌, if◌then◌else◌, max, Option, None, Some, option_map}
+use Rattle.std.specs.Prelude.{◌<◌, ◌^◌, ℕ, ◌+◌, ◌-◌, ◌*◌, ◌/◌, ◌==◌, nat_lt, if◌then◌else◌, max, Option, None, Some, option_map}
 use Rattle.std.specs.Int.{abs_diff}
 use Rattle.summary_core.specs.declared.event.Times.{Times}
 use Rattle.summary_core.specs.declared.event.PacketEvent.{PacketEvent}
@@ -103,3 +103,11 @@ over_span bytes (Some span) = if span == 0 then None else Some (bytes * 10000000
 
 abbrev pub throughput_of : Counts → Option ℕ
 throughput_of c = over_span c.bytes (span_of c)
+
+-- the mean delay in nanoseconds, rounded down; a group without a delay has 0
+abbrev pub mean_delay : Counts → ℕ
+mean_delay c = c.delay_sum / max c.delays 1
+
+-- the mean difference between consecutive delays, in nanoseconds, rounded down; it takes two delays
+abbrev pub jitter_of : Counts → Option ℕ
+jitter_of c = if nat_lt c.delays 2 then None else Some (c.jitter_sum / (c.delays - 1))

@@ -2,7 +2,15 @@ pub mod Counting
 pub mod Summing
 pub mod Summary
 pub mod JoinedSums
-pub mod Laws
 pub mod Recording
 pub mod Rows
 pub mod Percentiles
+pub mod Lists
+pub mod Parts
+pub mod Fairness
+pub mod Figures
+pub mod OfRun
+pub mod Laws
+pub mod Numbers
+pub mod Text
+pub mod Json

@@ -1,6 +1,6 @@
 //! The sums of one group of packets.
 ghost use Rattle.std.specs.Prelude.{◌≡◌, ◌<◌, ◌^◌, IsTrue};
-ghost use Rattle.summary_core.specs.Counting.{IsRoomy, no_counts, with_arrival, with_departure, with_drop, with_event, with_times, span_of, throughput_of};
+ghost use Rattle.summary_core.specs.Counting.{IsRoomy, no_counts, with_arrival, with_departure, with_drop, with_event, with_times, span_of, throughput_of, mean_delay, jitter_of};
 
 use crate::event::{PacketEvent, Times};
 
@@ -137,6 +137,23 @@ impl Counts {
             return None;
         }
         Some(u128::from(self.bytes) * 1_000_000_000 / span)
+    }
+
+    /// Returns the mean delay in nanoseconds, rounded down, or 0 if there is no delay.
+    pub fn mean_delay(&self) -> u128
+        ensures { result ≡ mean_delay self.now }
+    {
+        self.delay_sum / u128::from(self.delays.max(1))
+    }
+
+    /// Returns the jitter in nanoseconds, rounded down, if there are two delays or more.
+    pub fn jitter(&self) -> Option<u128>
+        ensures { result ≡ jitter_of self.now }
+    {
+        if self.delays < 2 {
+            return None;
+        }
+        Some(self.jitter_sum / u128::from(self.delays - 1))
     }
 
     /// Counts an event of a packet, and returns whether the sums had room for it. A run of less

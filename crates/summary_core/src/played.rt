@@ -7,7 +7,7 @@ use sched_run::Recorder;
 use std::test::Fail;
 
 /// Returns a packet of the first class.
-fn packet(number: u64, len: u32, moment: u64) -> Packet {
+pub(crate) fn packet(number: u64, len: u32, moment: u64) -> Packet {
     let mut packet = BLANK;
     packet.number = number;
     packet.len = len;
@@ -16,7 +16,7 @@ fn packet(number: u64, len: u32, moment: u64) -> Packet {
 }
 
 /// Returns the departure of a packet of the first class.
-fn departure(packet: u64, len: u32) -> Departed {
+pub(crate) fn departure(packet: u64, len: u32) -> Departed {
     Departed {
         packet,
         class: 0,

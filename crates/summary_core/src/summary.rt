@@ -1,13 +1,17 @@
 //! The sums of a run.
-ghost use Rattle.std.specs.Prelude.{◌≡◌, [], length, IfOk};
+ghost use Rattle.std.specs.Prelude.{◌≡◌, ◌++◌, [], length, if◌then◌else◌, IfOk, OnOk};
 ghost use Rattle.sched_defs.specs.Events as run;
 ghost use Rattle.tree_defs.specs.Tree.{Address};
 ghost use Rattle.packet_defs.specs.declared.packet.Packet.{Packet};
 ghost use Rattle.std.specs.List.{AllByRecursion};
 ghost use Rattle.summary_core.specs.Summing.{of_class, times_of};
+ghost use Rattle.summary_core.specs.Lists.{list_at};
 
 use crate::counts::Counts;
+use crate::delays::percentiles;
 use crate::event::{PacketEvent, Times};
+use crate::group::Figures;
+use crate::part::Part;
 use crate::table::{count_at, count_at_leaf, delay_at, reserve_at};
 use indexmap::IndexMap;
 use packet_defs::{Departed, Packet};
@@ -60,6 +64,25 @@ fn no_lists(alloc: Global, count: usize) -> Result<Vec<Vec<u64>>, AllocError>
     Ok(lists)
 }
 
+/// Appends the list of a class, if it is wanted and there is one.
+fn append_list(
+    into: &mut Vec<u64>,
+    lists: &[Vec<u64>],
+    class: usize,
+    wanted: bool,
+) -> Result<(), AllocError>
+    ensures { OnOk result (into.new.items ≡ into.old.items ++
+        (if wanted then list_at lists.now class else [])) }
+{
+    if !wanted {
+        return Ok(());
+    }
+    match lists.get(class) {
+        Some(list) => into.extend_from_slice(list),
+        None => Ok(()),
+    }
+}
+
 /// The sums of a run: of all packets, of the packets of each leaf, and of the packets of each
 /// class. It also stores the delays of each class in a list, and the timestamp of each queued
 /// packet.
@@ -82,6 +105,7 @@ pub struct Summary {
 
 impl Summary {
     ghost use Rattle.std.specs.Prelude.{◌≡◌, List, ◌∷◌, [], ℕ, ◌==◌, if◌then◌else◌, Some, None, Option, slice_get, IsTrue, IfOk, OnOk};
+    ghost use Rattle.summary_core.specs.Figures.{gathered, counts_in, AreFigures};
     ghost use Rattle.summary_core.specs.Summary.{timestamp_at, AddsEvents, Stays, HoldsAlike, Sums, SumsNothing};
 
     /// Returns the sums of no packet, for a link of this rate. The table gives the
@@ -141,6 +165,41 @@ impl Summary {
         ensures { result ≡ self.delays }
     {
         self.delays
+    }
+
+    /// Returns the delays of a part's classes, one class after another.
+    fn gathered(&self, alloc: Global, part: Part) -> Result<Vec<u64>, AllocError>
+        ensures { IfOk result (λ v. v.items ≡ gathered self.now part) }
+    {
+        let mut found = Vec::new(alloc);
+        for class in 0..self.table.len() {
+            let wanted = part.has(&self.table, class);
+            append_list(&mut found, &self.delays, class, wanted)?;
+        }
+        Ok(found)
+    }
+
+    /// Returns the sums of a part, or those of no packet if there is no such leaf or class.
+    fn counts(&self, part: Part) -> Counts
+        ensures { result ≡ counts_in self.now part }
+    {
+        let found = match part {
+            Part::Whole => Some(self.all),
+            Part::Leaf(index) => self.leaves.get(index).copied(),
+            Part::Class(class) => self.classes.get(class).copied(),
+        };
+        found.unwrap_or(Counts::new())
+    }
+
+    /// Returns the sums of a part and the percentiles of its delays. The error is out of memory.
+    pub fn figures(&self, alloc: Global, part: Part) -> Result<Figures, AllocError>
+        ensures { IfOk result (λ f. AreFigures self.now part f) }
+    {
+        let mut delays = self.gathered(alloc, part)?;
+        Ok(Figures {
+            counts: self.counts(part),
+            delays: percentiles(&mut delays),
+        })
     }
 
     /// Counts an event of a packet of a class.

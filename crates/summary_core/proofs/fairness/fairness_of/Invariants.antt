@@ -1,0 +1,10 @@
+use Rattle.std.proofs.Common.{◌≡◌, ◌+◌, length, drop}
+use Rattle.summary_core.specs.Fairness.{shares, total, squares}
+use Rattle.summary_core.proofs.fairness.fairness_of.Given as goal
+
+abbrev pub invariant-loop-leaf : goal.invariant-loop-leaf
+invariant-loop-leaf l = record {
+  count : l.totals.count + length (shares (drop l.leaf-index l.leaves)) ≡ length (shares l.leaves);
+  sum : l.totals.sum + total (shares (drop l.leaf-index l.leaves)) ≡ total (shares l.leaves);
+  squares : l.totals.squares + squares (shares (drop l.leaf-index l.leaves)) ≡ squares (shares l.leaves);
+}
