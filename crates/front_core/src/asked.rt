@@ -1,8 +1,10 @@
 //! The request that a command line makes.
 use crate::mistake::Mistake;
-use crate::names::{TAPS, command_named, count_of};
+use crate::names::{
+    TAPS, argument_of, command_named, count_of, least_of, option_of, place_in_form,
+};
 use crate::scan::{Scan, tell_apart};
-use front_defs::{Command, Options, RateFault, rate_in};
+use front_defs::{Command, Options, RateFault, View, rate_in};
 use std::alloc::Global;
 use std::path::Path;
 use text_core::decimal;
@@ -12,6 +14,9 @@ const MOST_SEED: u64 = (1 << 62) - 1;
 
 /// The greatest number of events of a load.
 const MOST_COUNT: u64 = 1_000_000;
+
+/// The greatest number of bytes that a link takes for a packet besides its length.
+const MOST_OVERHEAD: u64 = 65_535;
 
 /// The request for a run.
 #[derive(Drop)]
@@ -33,12 +38,17 @@ pub enum Asked<'a> {
     Run(Request<'a>),
 }
 
-/// Checks that an argument is a whole number of at most `most`. `place` is its index among the
-/// arguments.
+/// Checks that an argument of a load is a whole number of at most `most`. `place` is its index among
+/// the arguments.
 fn see_number<'a>(place: usize, word: &'a str, most: u64) -> Result<(), Mistake<'a>> {
     match decimal(word.as_bytes()) {
         Some(number) if number <= most => Ok(()),
-        _ => Err(Mistake::NoNumber(place, word, most)),
+        _ => Err(Mistake::NoNumber(
+            Command::Soak,
+            argument_of(Command::Soak, place),
+            word,
+            most,
+        )),
     }
 }
 
@@ -85,21 +95,25 @@ fn take_pairs<'a>(scan: &mut Scan<'a>) -> Result<(), Mistake<'a>> {
     Ok(())
 }
 
-/// Returns the index of the first missing argument. If the command takes a rate and the last
-/// argument given is one, the missing argument comes before it.
+/// Returns the index of the first missing argument in the command's form. If the command takes a
+/// rate and the last argument given is one, the missing argument comes before it.
 fn missing_place(command: Command, arguments: &[&str]) -> usize {
-    match arguments {
-        [.., word] if has_rate(command) && rate_in(word.as_bytes()).is_ok() => arguments.len() - 1,
+    let place = match arguments {
+        [.., word] if command.has_link() && rate_in(word.as_bytes()).is_ok() => {
+            arguments.len() - 1
+        }
         _ => arguments.len(),
-    }
+    };
+    place_in_form(command, arguments.len(), place)
 }
 
 /// Checks that a command has the right number of arguments, and that none is empty.
 fn see_arguments<'a>(command: Command, arguments: &[&'a str]) -> Result<(), Mistake<'a>> {
     if let Some(place) = arguments.iter().position(|word| word.is_empty()) {
+        let place = place_in_form(command, arguments.len(), place);
         return Err(Mistake::Empty(command, place));
     }
-    if arguments.len() < count_of(command) {
+    if arguments.len() < least_of(command) {
         return Err(Mistake::Missing(command, missing_place(command, arguments)));
     }
     match arguments.get(count_of(command)) {
@@ -120,11 +134,6 @@ fn see_output<'a>(arguments: &[&'a str], output: Option<&'a str>) -> Result<(), 
     Ok(())
 }
 
-/// Returns whether a command's last argument is a rate.
-fn has_rate(command: Command) -> bool {
-    command == Command::Link || command == Command::Forward
-}
-
 /// Returns whether a rate consists of digits alone, as scripts write it.
 fn is_plain_rate(word: &str) -> bool {
     word.as_bytes().iter().all(|byte| byte.is_ascii_digit())
@@ -137,7 +146,7 @@ fn take_rate<'a>(
     plain: bool,
     arguments: &mut Vec<&'a str>,
 ) -> Result<Option<u64>, Mistake<'a>> {
-    if !has_rate(command) {
+    if !command.has_link() {
         return Ok(None);
     }
     let Some(word) = arguments.pop() else {
@@ -150,6 +159,40 @@ fn take_rate<'a>(
         Ok(rate) => Ok(Some(rate)),
         Err(fault) => Err(Mistake::NoRate(command, word, fault)),
     }
+}
+
+/// Parses the bytes that a link takes for each packet besides its length.
+fn overhead_in<'a>(command: Command, word: Option<&'a str>) -> Result<u32, Mistake<'a>> {
+    let Some(word) = word else {
+        return Ok(0);
+    };
+    match decimal(word.as_bytes()) {
+        Some(number) if number <= MOST_OVERHEAD => Ok(number as u32),
+        _ => Err(Mistake::NoNumber(command, "BYTES", word, MOST_OVERHEAD)),
+    }
+}
+
+/// Returns whether a command can write events as JSON lines, and sums.
+fn has_views(command: Command) -> bool {
+    matches!(command, Command::Direct | Command::Replay | Command::Link)
+}
+
+/// Checks that the command has the options for a link's overhead, for events and for sums, and that
+/// there are no taps with the latter.
+fn see_views<'a>(command: Command, scan: &Scan<'a>) -> Result<(), Mistake<'a>> {
+    if scan.overhead.is_some() && !command.has_link() {
+        return Err(Mistake::NoOverhead(command));
+    }
+    let Some(view) = scan.view else {
+        return Ok(());
+    };
+    if !has_views(command) {
+        return Err(Mistake::NoView(command, option_of(view)));
+    }
+    if !scan.taps.is_empty() {
+        return Err(Mistake::TapsWithView(option_of(view)));
+    }
+    Ok(())
 }
 
 /// Returns whether a command has no form on rank stores.
@@ -175,7 +218,11 @@ fn see_command<'a>(command: Command, scan: &mut Scan<'a>) -> Result<(), Mistake<
     } else if !scan.taps.is_empty() {
         return Err(Mistake::NoTaps(command));
     }
+    see_views(command, scan)?;
     see_arguments(command, &scan.arguments)?;
+    if scan.block && scan.arguments.len() < count_of(command) {
+        return Err(Mistake::BlockWithoutTarget(command));
+    }
     see_taps(&scan.taps)?;
     if command == Command::Soak {
         see_load(&scan.arguments)?;
@@ -188,11 +235,13 @@ fn see_command<'a>(command: Command, scan: &mut Scan<'a>) -> Result<(), Mistake<
 fn request_of<'a>(command: Command, mut scan: Scan<'a>) -> Result<Request<'a>, Mistake<'a>> {
     see_command(command, &mut scan)?;
     let rate = take_rate(command, scan.plain, &mut scan.arguments)?;
+    let overhead = overhead_in(command, scan.overhead)?;
     let output = output_of(scan.output);
     see_output(&scan.arguments, output)?;
     let Scan {
         arguments,
         taps,
+        view,
         block,
         plain,
         quiet,
@@ -202,6 +251,8 @@ fn request_of<'a>(command: Command, mut scan: Scan<'a>) -> Result<Request<'a>, M
         command,
         files: arguments,
         rate,
+        overhead,
+        view: view.unwrap_or(View::Report),
         taps,
         block: block || command == Command::Calm,
         plain,

@@ -1,10 +1,10 @@
 //! The file that an error is in.
-use front_defs::{Command, Options};
+use front_defs::{Command, Options, is_own};
 use report_core::FaultKind;
 
 /// Returns the index of the file that an error is in, among the files of a command, counted from 0.
-pub fn file_of(command: Command, kind: FaultKind) -> Option<usize> {
-    Some(match (kind, command) {
+pub fn file_of(options: &Options<'_>, kind: FaultKind) -> Option<usize> {
+    Some(match (kind, options.command) {
         (FaultKind::Policy, _) => 0,
         (FaultKind::Target | FaultKind::Size, Command::Via) => 3,
         (FaultKind::Target | FaultKind::Size, _) => 1,
@@ -13,6 +13,7 @@ pub fn file_of(command: Command, kind: FaultKind) -> Option<usize> {
         (FaultKind::Script, Command::Via) => 5,
         (FaultKind::Capture, Command::Direct) => 1,
         (FaultKind::Capture, Command::Via) => 4,
+        (FaultKind::Capture, _) if is_own(options) => 1,
         (FaultKind::Capture, _) => 2,
         (FaultKind::Tree, _) => 1,
         (FaultKind::Map, _) => 2,
@@ -36,6 +37,7 @@ pub fn policy_of<'a>(options: &Options<'a>) -> Option<&'a str> {
 /// Returns the name of a command's capture, if it has one.
 pub fn capture_of<'a>(options: &Options<'a>) -> Option<&'a str> {
     match options.command {
+        Command::Link | Command::Forward if is_own(options) => named(options, 1),
         Command::Replay | Command::Link | Command::Forward => named(options, 2),
         Command::Direct => named(options, 1),
         Command::Via => named(options, 4),
@@ -46,6 +48,7 @@ pub fn capture_of<'a>(options: &Options<'a>) -> Option<&'a str> {
 /// Returns the name of the target that a command lays a policy's own tree into, if it has one.
 pub fn target_of<'a>(options: &Options<'a>) -> Option<&'a str> {
     match options.command {
+        Command::Link | Command::Forward if is_own(options) => None,
         Command::Plan | Command::Replay | Command::Link | Command::Forward => named(options, 1),
         _ => None,
     }

@@ -37,8 +37,22 @@ pub enum Mistake<'a> {
     NoTaps(Command),
     /// This command doesn't run on rank stores.
     NoBlock(Command),
-    /// The argument with this index, counted from 0, is not a whole number up to this limit.
-    NoNumber(usize, &'a str, u64),
+    /// This command runs on rank stores only through a target, and none is given.
+    BlockWithoutTarget(Command),
+    /// The argument or value of this name is not a whole number up to this limit.
+    NoNumber(Command, &'static str, &'a str, u64),
+    /// This command has no link, and so no overhead.
+    NoOverhead(Command),
+    /// This overhead is a second one.
+    OverheadTwice(&'a str),
+    /// This command doesn't have this option for events or sums.
+    NoView(Command, &'static str),
+    /// Two of the options for events and sums are given.
+    TwoViews,
+    /// Taps are given with this option for events or sums.
+    TapsWithView(&'static str),
+    /// There is no such form of sums.
+    NoSummary(&'a str),
     /// The output would overwrite this input.
     OverInput(&'a str),
     /// Out of memory.

@@ -86,15 +86,61 @@ fn say_unknown(
 fn say_no_number(
     alloc: Global,
     into: &mut Vec<u8>,
-    place: usize,
+    name: &str,
     word: &str,
     most: u64,
 ) -> Result<(), AllocError> {
-    let name = argument_of(Command::Soak, place);
     say(into, "expected a whole number from 0 to ")?;
     say_thousands(alloc, into, most)?;
     say_around(into, " for ", name, ", found ")?;
     say_short(into, word)
+}
+
+/// Returns the same parts for a mistake about the options for links, events and sums.
+fn option_parts_of<'a>(mistake: Mistake<'a>) -> (&'static str, &'a str, &'static str) {
+    match mistake {
+        Mistake::NoOverhead(command) => (
+            "expected no --overhead at ",
+            command.word(),
+            ", which has no link: it is for link and forward",
+        ),
+        Mistake::NoView(command, "--json") => (
+            "expected no --json at ",
+            command.word(),
+            ": it is for direct, replay and link",
+        ),
+        Mistake::NoView(command, _) => (
+            "expected no --summary at ",
+            command.word(),
+            ": it is for direct, replay and link",
+        ),
+        Mistake::TapsWithView(option) => (
+            "expected no taps with ",
+            option,
+            ": their lines end a report",
+        ),
+        Mistake::BlockWithoutTarget(command) => (
+            "expected TARGET for --block at ",
+            command.word(),
+            ", found none: without a target there are no rank stores",
+        ),
+        Mistake::OverheadTwice(word) => (
+            "expected one overhead, found ",
+            word,
+            " as a second one",
+        ),
+        Mistake::TwoViews => (
+            "expected one of --json, --summary and --summary=json, found two",
+            "",
+            "",
+        ),
+        Mistake::NoSummary(word) => (
+            "expected --summary or --summary=json, found --summary=",
+            word,
+            "",
+        ),
+        _ => ("out of memory", "", ""),
+    }
 }
 
 /// Returns the argument that a mistake names, with the text before and after it.
@@ -131,7 +177,7 @@ fn parts_of<'a>(mistake: Mistake<'a>) -> (&'static str, &'a str, &'static str) {
             name,
             " as both",
         ),
-        _ => ("out of memory", "", ""),
+        _ => option_parts_of(mistake),
     }
 }
 
@@ -150,7 +196,7 @@ fn say_mistake(alloc: Global, into: &mut Vec<u8>, mistake: Mistake<'_>) -> Resul
             say_short(into, word)?;
             say_around(into, ": ", rate_reason(word.as_bytes(), fault), "")
         }
-        Mistake::NoNumber(place, word, most) => say_no_number(alloc, into, place, word, most),
+        Mistake::NoNumber(_, name, word, most) => say_no_number(alloc, into, name, word, most),
         Mistake::OptionForValue(option, word) => {
             say_around(into, "expected a value after ", option, ", found ")?;
             say_short(into, word)
@@ -169,7 +215,7 @@ fn command_in(mistake: Mistake<'_>) -> Option<Command> {
     match mistake {
         Mistake::Missing(command, _) | Mistake::Unexpected(command, _) | Mistake::NoTaps(command) =>
             Some(command),
-        Mistake::NoNumber(_, _, _) => Some(Command::Soak),
+        Mistake::NoNumber(command, _, _, _) | Mistake::BlockWithoutTarget(command) => Some(command),
         Mistake::NoRate(command, _, _) | Mistake::Empty(command, _) => Some(command),
         Mistake::UnknownTap(_) | Mistake::TapTwice(_) | Mistake::NoTapName => Some(Command::Replay),
         _ => None,

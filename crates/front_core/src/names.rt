@@ -1,5 +1,5 @@
 //! The names of commands, of their arguments, of options and of taps.
-use front_defs::Command;
+use front_defs::{Command, View};
 
 /// The names of the commands.
 pub const COMMANDS: [&str; 9] = [
@@ -7,12 +7,15 @@ pub const COMMANDS: [&str; 9] = [
 ];
 
 /// The names of the options.
-pub const OPTIONS: [&str; 7] = [
+pub const OPTIONS: [&str; 10] = [
     "--block",
     "--help",
+    "--json",
     "--output",
+    "--overhead",
     "--plain",
     "--quiet",
+    "--summary",
     "--tap",
     "--version",
 ];
@@ -42,8 +45,8 @@ pub fn form_of(command: Command) -> &'static str {
         Command::Check => "check POLICY",
         Command::Plan => "plan POLICY TARGET",
         Command::Replay => "replay POLICY TARGET CAPTURE SCRIPT [--tap NAME]..",
-        Command::Link => "link POLICY TARGET CAPTURE RATE",
-        Command::Forward => "forward POLICY TARGET CAPTURE RATE",
+        Command::Link => "link POLICY [TARGET] CAPTURE RATE [--overhead BYTES]",
+        Command::Forward => "forward POLICY [TARGET] CAPTURE RATE [--overhead BYTES]",
         Command::Direct => "direct POLICY CAPTURE SCRIPT",
         Command::Via => "via POLICY TOPOLOGY MAP TARGET CAPTURE SCRIPT",
         Command::Soak => "soak SEED COUNT",
@@ -51,7 +54,26 @@ pub fn form_of(command: Command) -> &'static str {
     }
 }
 
-/// Returns the number of arguments of a command.
+/// Returns the option that sets a view, or an empty text for reports.
+pub fn option_of(view: View) -> &'static str {
+    match view {
+        View::Report => "",
+        View::Json => "--json",
+        View::Summary => "--summary",
+        View::JsonSummary => "--summary=json",
+    }
+}
+
+/// Returns the least number of arguments of a command. A link can have no target.
+pub fn least_of(command: Command) -> usize {
+    if command.has_link() {
+        3
+    } else {
+        count_of(command)
+    }
+}
+
+/// Returns the greatest number of arguments of a command.
 pub fn count_of(command: Command) -> usize {
     match command {
         Command::Check => 1,
@@ -77,5 +99,15 @@ pub fn argument_of(command: Command, place: usize) -> &'static str {
         (Command::Replay | Command::Link | Command::Forward, 1) => "TARGET",
         (Command::Replay | Command::Link | Command::Forward, 2) => "CAPTURE",
         _ => "SCRIPT",
+    }
+}
+
+/// Returns the index of an argument in the command's form, from its index among `count` arguments.
+/// A link with fewer arguments than its form has no target.
+pub fn place_in_form(command: Command, count: usize, place: usize) -> usize {
+    if command.has_link() && count < count_of(command) && 0 < place {
+        place.saturating_add(1)
+    } else {
+        place
     }
 }

@@ -1,5 +1,6 @@
 //! Separates a command line into arguments and options.
 use crate::mistake::Mistake;
+use front_defs::View;
 use std::alloc::Global;
 
 /// The arguments and options of a command line.
@@ -8,6 +9,8 @@ pub struct Scan<'a> {
     pub arguments: Vec<&'a str>,
     pub taps: Vec<&'a str>,
     pub output: Option<&'a str>,
+    pub overhead: Option<&'a str>,
+    pub view: Option<View>,
     pub block: bool,
     pub plain: bool,
     pub quiet: bool,
@@ -32,12 +35,24 @@ fn value_after<'a>(option: &'a str, next: Option<&'a str>) -> Result<&'a str, Mi
     }
 }
 
+/// Returns the view that an option names.
+fn view_named(word: &str) -> Option<View> {
+    match word {
+        "--json" => Some(View::Json),
+        "--summary" => Some(View::Summary),
+        "--summary=json" => Some(View::JsonSummary),
+        _ => None,
+    }
+}
+
 impl<'a> Scan<'a> {
     fn new(alloc: Global) -> Scan<'a> {
         Scan {
             arguments: Vec::new(alloc),
             taps: Vec::new(alloc),
             output: None,
+            overhead: None,
+            view: None,
             block: false,
             plain: false,
             quiet: false,
@@ -64,6 +79,8 @@ impl<'a> Scan<'a> {
         }
         match option {
             "-t" | "--tap" => self.taps.push(value)?,
+            "--overhead" if self.overhead.is_some() => return Err(Mistake::OverheadTwice(value)),
+            "--overhead" => self.overhead = Some(value),
             _ if self.output.is_some() => return Err(Mistake::OutputTwice(value)),
             _ => self.output = Some(value),
         }
@@ -137,9 +154,20 @@ impl<'a> Scan<'a> {
         true
     }
 
+    /// Sets the view. Fails if another one is set.
+    fn set_view(&mut self, view: View) -> Result<(), Mistake<'a>> {
+        match self.view {
+            Some(other) if other != view => Err(Mistake::TwoViews),
+            _ => {
+                self.view = Some(view);
+                Ok(())
+            }
+        }
+    }
+
     /// Sets a long option with a value. Returns whether the value is the next argument.
     fn long(&mut self, word: &'a str, next: Option<&'a str>) -> Result<bool, Mistake<'a>> {
-        if word == "--tap" || word == "--output" {
+        if word == "--tap" || word == "--output" || word == "--overhead" {
             self.value(word, value_after(word, next)?)?;
             return Ok(true);
         }
@@ -147,6 +175,10 @@ impl<'a> Scan<'a> {
             self.value("--tap", name)?;
         } else if let Some(name) = value_in(word, "--output=") {
             self.value("--output", name)?;
+        } else if let Some(bytes) = value_in(word, "--overhead=") {
+            self.value("--overhead", bytes)?;
+        } else if let Some(form) = value_in(word, "--summary=") {
+            return Err(Mistake::NoSummary(form));
         } else {
             return Err(Mistake::UnknownOption(word));
         }
@@ -163,6 +195,10 @@ impl<'a> Scan<'a> {
             return self.short(word, next);
         }
         if self.switch(word) {
+            return Ok(false);
+        }
+        if let Some(view) = view_named(word) {
+            self.set_view(view)?;
             return Ok(false);
         }
         self.long(word, next)

@@ -293,7 +293,7 @@ pub fn tell_fault(
 }
 
 /// Describes an exit status that comes without a `fault` line, and says what to do.
-fn status_text(status: u8) -> (&'static str, &'static str) {
+fn status_text(command: Command, status: u8) -> (&'static str, &'static str) {
     match status {
         7 => (
             "the capture is at fault after the departures that were written",
@@ -306,6 +306,10 @@ fn status_text(status: u8) -> (&'static str, &'static str) {
         10 => (
             "out of memory",
             "see how many packets the policy holds, or give the run more memory",
+        ),
+        14 if command != Command::Forward => (
+            "a sum is too great for 64 bits, and none is written",
+            "see the capture's timestamps, or give a higher rate",
         ),
         14 => (
             "a departure would start at 2^32 seconds or later, which a capture can't say",
@@ -322,7 +326,7 @@ fn status_text(status: u8) -> (&'static str, &'static str) {
 /// Returns the message for an exit status that comes without a `fault` line. Fails if out of
 /// memory.
 pub fn tell_status(alloc: Global, command: Command, status: u8) -> Result<Vec<u8>, AllocError> {
-    let (is, help) = status_text(status);
+    let (is, help) = status_text(command, status);
     let mut text = Vec::new(alloc);
     say_around(&mut text, "zovatsemo ", command.word(), ": error: ")?;
     say(&mut text, is)?;

@@ -1,9 +1,11 @@
 -- The meaning of a command line: the replayer's arguments that its options give.
-use Rattle.std.specs.Prelude.{◌≡◌, refl, ℕ, Bool, Option, None, Some, List, [], ◌∷◌, ◌++◌, map, codes, decimal}
+use Rattle.std.specs.Prelude.{◌≡◌, refl, ℕ, ◌==◌, ◌&&◌, not, Bool, true, false, length, Option, None, Some, List, [], ◌∷◌, ◌++◌, map, codes, decimal}
 use Rattle.std.specs.Borrow.{Bor}
 use Rattle.front_defs.specs.declared.command.Command.{Command}
 use Rattle.front_defs.specs.declared.command.Command.TheVariants as c
 use Rattle.front_defs.specs.declared.options.Options.{Options}
+use Rattle.front_defs.specs.declared.view.View.{View}
+use Rattle.front_defs.specs.declared.view.View.TheVariants as v
 
 -- the name of a command, as an argument
 abbrev pub command_word : Command → List ℕ
@@ -39,6 +41,33 @@ names list = map (λ name. name.now) list
 abbrev pub words_of : Options → List (List ℕ)
 words_of o = words_by o.command (names o.files.items) o.rate (names o.taps.items)
 
+-- ---- what the replayer has no arguments for
+-- whether a link paces the command's run
+abbrev pub has_link : Command → Bool
+has_link c.Link = true
+has_link c.Forward = true
+has_link command = false
+
+-- whether a run writes a line for each event, as the replayer does
+abbrev pub is_report : View → Bool
+is_report v.Report = true
+is_report view = false
+
+-- a link with two files runs through the policy's own tree: they are a policy and a capture
+abbrev pub is_own_by : Command → ℕ → Bool
+is_own_by command files = has_link command && files == 2
+
+-- whether the replayer has arguments for a command with this number of files, a view, and the bytes
+-- that a link takes for each packet besides its length
+abbrev pub has_words_by : Command → ℕ → View → ℕ → Bool
+has_words_by command files view overhead = is_report view && overhead == 0 && not (is_own_by command files)
+
+abbrev pub is_own : Options → Bool
+is_own o = is_own_by o.command (length o.files.items)
+
+abbrev pub has_words : Options → Bool
+has_words o = has_words_by o.command (length o.files.items) o.view o.overhead
+
 check_has_a_policy : words_by c.Check (codes "p" ∷ []) None [] ≡ codes "check" ∷ codes "p" ∷ []
 check_has_a_policy = refl
 
@@ -70,3 +99,18 @@ calm_has_a_target = refl
 
 rank_stores_take_the_same_words : (o : Options) (block : Bool) → words_of (record o { block = block }) ≡ words_of o
 rank_stores_take_the_same_words o block = refl
+
+each_command_with_its_files_has_words : map (λ command. has_words_by command 3 v.Report 0) (c.Plan ∷ c.Link ∷ c.Forward ∷ c.Direct ∷ []) ≡ true ∷ true ∷ true ∷ true ∷ []
+each_command_with_its_files_has_words = refl
+
+a_plan_of_two_files_has_words : has_words_by c.Plan 2 v.Report 0 ≡ true
+a_plan_of_two_files_has_words = refl
+
+links_without_a_target_have_none : map (λ command. has_words_by command 2 v.Report 0) (c.Link ∷ c.Forward ∷ []) ≡ false ∷ false ∷ []
+links_without_a_target_have_none = refl
+
+overhead_has_none : has_words_by c.Link 3 v.Report 24 ≡ false
+overhead_has_none = refl
+
+other_views_have_none : map (λ view. has_words_by c.Direct 3 view 0) (v.Json ∷ v.Summary ∷ v.JsonSummary ∷ []) ≡ false ∷ false ∷ false ∷ []
+other_views_have_none = refl

@@ -1,6 +1,6 @@
 //! The commands.
 ghost use Rattle.std.specs.Prelude.{◌≡◌};
-ghost use Rattle.front_defs.specs.Options.{command_word};
+ghost use Rattle.front_defs.specs.Options.{command_word, has_link};
 
 /// A command of the replayer. `Calm` is one on rank stores only.
 #[derive(Clone, Copy, PartialEq, Eq, Debug)]
@@ -31,6 +31,15 @@ impl Command {
             Command::Via => "via",
             Command::Soak => "soak",
             Command::Calm => "calm",
+        }
+    }
+    /// Returns whether a link paces the command's run.
+    pub fn has_link(self) -> bool
+        ensures { result ≡ has_link self }
+    {
+        match self {
+            Command::Link | Command::Forward => true,
+            _ => false,
         }
     }
 }

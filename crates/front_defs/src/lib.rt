@@ -6,7 +6,9 @@ mod command;
 mod options;
 mod rate;
 mod unit;
+mod view;
 
 pub use command::Command;
-pub use options::{Options, words_of};
+pub use options::{Options, has_words, is_own, words_of};
 pub use rate::{RateFault, rate_in};
+pub use view::View;

@@ -1,8 +1,9 @@
 //! Options, and the replayer's arguments that they give.
 ghost use Rattle.std.specs.Prelude.{◌≡◌, ◌++◌, ◌∷◌, [], IfOk, OnOk, map, string_bytes};
-ghost use Rattle.front_defs.specs.Options.{names, tap_words, rate_words, words_of};
+ghost use Rattle.front_defs.specs.Options.{names, tap_words, rate_words, words_of, is_own, has_words};
 
 use crate::command::Command;
+use crate::view::View;
 use itoa::Buffer;
 use std::alloc::{AllocError, Global};
 
@@ -10,10 +11,15 @@ use std::alloc::{AllocError, Global};
 #[derive(Drop)]
 pub struct Options<'a> {
     pub command: Command,
-    /// The command's file names in their order; for `soak`, its two numbers.
+    /// The command's file names in their order; for `soak`, its two numbers. A link through the
+    /// policy's own tree has a policy and a capture, and no target.
     pub files: Vec<&'a str>,
     /// The rate of a link, in bytes per second.
     pub rate: Option<u64>,
+    /// Bytes that the link takes for each packet besides its length.
+    pub overhead: u32,
+    /// What a run writes.
+    pub view: View,
     /// The names of taps.
     pub taps: Vec<&'a str>,
     /// Whether the target builds its queues from rank stores.
@@ -79,4 +85,19 @@ pub fn words_of(alloc: Global, options: &Options<'_>) -> Result<Vec<String>, All
     put_rate(alloc, &mut words, options.rate)?;
     put_taps(alloc, &mut words, &options.taps)?;
     Ok(words)
+}
+
+/// Returns whether a link runs through the policy's own tree: its files are a policy and a capture.
+pub fn is_own(options: &Options<'_>) -> bool
+    ensures { result ≡ is_own options.now }
+{
+    options.command.has_link() && options.files.len() == 2
+}
+
+/// Returns whether the replayer has arguments for the options: it writes reports alone, its links
+/// take no bytes besides a packet's length, and they run through a target's queues.
+pub fn has_words(options: &Options<'_>) -> bool
+    ensures { result ≡ has_words options.now }
+{
+    options.view == View::Report && options.overhead == 0 && !is_own(options)
 }
