@@ -4,7 +4,8 @@ use crate::names::{
     TAPS, argument_of, command_named, count_of, least_of, option_of, place_in_form,
 };
 use crate::scan::{Scan, tell_apart};
-use front_defs::{Command, Options, RateFault, View, rate_in};
+use events_core::MOST_OVERHEAD;
+use front_defs::{Command, Options, RateFault, View, overhead_in, rate_in};
 use std::alloc::Global;
 use std::path::Path;
 use text_core::decimal;
@@ -14,9 +15,6 @@ const MOST_SEED: u64 = (1 << 62) - 1;
 
 /// The greatest number of events of a load.
 const MOST_COUNT: u64 = 1_000_000;
-
-/// The greatest number of bytes that a link takes for a packet besides its length.
-const MOST_OVERHEAD: u64 = 65_535;
 
 /// The request for a run.
 #[derive(Drop)]
@@ -162,13 +160,18 @@ fn take_rate<'a>(
 }
 
 /// Parses the bytes that a link takes for each packet besides its length.
-fn overhead_in<'a>(command: Command, word: Option<&'a str>) -> Result<u32, Mistake<'a>> {
+fn take_overhead<'a>(command: Command, word: Option<&'a str>) -> Result<u32, Mistake<'a>> {
     let Some(word) = word else {
         return Ok(0);
     };
-    match decimal(word.as_bytes()) {
-        Some(number) if number <= MOST_OVERHEAD => Ok(number as u32),
-        _ => Err(Mistake::NoNumber(command, "BYTES", word, MOST_OVERHEAD)),
+    match overhead_in(word.as_bytes()) {
+        Some(bytes) => Ok(bytes),
+        None => Err(Mistake::NoNumber(
+            command,
+            "BYTES",
+            word,
+            MOST_OVERHEAD as u64,
+        )),
     }
 }
 
@@ -235,7 +238,7 @@ fn see_command<'a>(command: Command, scan: &mut Scan<'a>) -> Result<(), Mistake<
 fn request_of<'a>(command: Command, mut scan: Scan<'a>) -> Result<Request<'a>, Mistake<'a>> {
     see_command(command, &mut scan)?;
     let rate = take_rate(command, scan.plain, &mut scan.arguments)?;
-    let overhead = overhead_in(command, scan.overhead)?;
+    let overhead = take_overhead(command, scan.overhead)?;
     let output = output_of(scan.output);
     see_output(&scan.arguments, output)?;
     let Scan {

@@ -9,8 +9,8 @@ check POLICY                                    report the first error of a poli
 plan POLICY TARGET                              print where each node of the policy goes in the target
 replay POLICY TARGET CAPTURE SCRIPT [--tap NAME]..
                                                 run a capture through the target's queues, as the script says
-link POLICY TARGET CAPTURE RATE                 run it at the pace of a link of that rate
-forward POLICY TARGET CAPTURE RATE              write the departures of link as a capture for other tools
+link POLICY [TARGET] CAPTURE RATE               run it at the pace of a link of that rate
+forward POLICY [TARGET] CAPTURE RATE            write the departures of link as a capture for other tools
 direct POLICY CAPTURE SCRIPT                    print what replay prints, computed with the policy's own tree
 via POLICY TOPOLOGY MAP TARGET CAPTURE SCRIPT   print what replay prints, with a map of your own
 soak SEED COUNT                                 run a generated load and print its sums
@@ -20,9 +20,12 @@ RATE is 10Mbit, 10gbit, 1.25MB or 125000 (bytes a second). The file - is standar
 
     --block               run on rank stores, and count the spills (not via and forward)
 -h, --help [COMMAND]      this text, or that of a command with an example
+    --json                write each event of direct, replay or link as a JSON line
 -o, --output FILE         write to a file that doesn't exist yet, or with - to standard output
+    --overhead BYTES      bytes that link and forward add to each packet, 0 to 65535; Ethernet has 24
 -t, --tap NAME            one more line at the end of replay: bytes, order, first or drops
     --plain               write the line `fault KIND CODE PLACE` too, and no messages
+    --summary[=json]      write sums of direct, replay or link in place of events
 -q, --quiet               write no messages
 -V, --version             the version
 ";
@@ -48,41 +51,42 @@ high a target would have to be.
 
 /// The help text of `replay`.
 const REPLAY: &str = "\
-zovatsemo replay POLICY TARGET CAPTURE SCRIPT [--tap NAME]..
+zovatsemo replay POLICY TARGET CAPTURE SCRIPT [--tap NAME].. [--json | --summary[=json]]
 
 Runs the packets of a capture through the target's queues. The script says when packets arrive and depart. Prints a line
 for each event, with the packet and its rank in each queue of the policy. A tap prints one more line at the end; NAME is
-bytes, order, first or drops.
+bytes, order, first or drops. With --json or --summary there are no taps.
 
     zovatsemo replay examples/office/policy examples/office/target examples/office/capture examples/office/script
 ";
 
 /// The help text of `link`.
 const LINK: &str = "\
-zovatsemo link POLICY TARGET CAPTURE RATE
+zovatsemo link POLICY [TARGET] CAPTURE RATE [--overhead BYTES] [--json | --summary[=json]]
 
-Runs the packets of a capture through the target's queues, at their timestamps. A link of RATE
-takes them out. Prints what `replay` prints, and the time in nanoseconds at which each packet starts on the link.
+Runs the packets of a capture through the target's queues, at their timestamps, or without a target through the policy's
+own tree. A link of RATE takes them out. Prints what `replay` prints, and the time in nanoseconds at which each packet
+starts on the link. With --summary it prints delays, throughput and backlog in place of events.
 
-    zovatsemo link examples/office/policy examples/office/target examples/office/capture 1Mbit
+    zovatsemo link examples/office/policy examples/office/capture 1Mbit --overhead 24 --summary
 ";
 
 /// The help text of `forward`.
 const FORWARD: &str = "\
-zovatsemo forward POLICY TARGET CAPTURE RATE
+zovatsemo forward POLICY [TARGET] CAPTURE RATE [--overhead BYTES]
 
 Writes the departures of `link` as a capture (pcap, in nanoseconds), which Wireshark and other tools can read.
 
-    zovatsemo forward examples/office/policy examples/office/target examples/office/capture 1Mbit -o out.pcap
+    zovatsemo forward examples/office/policy examples/office/capture 1Mbit -o out.pcap
 ";
 
 /// The help text of `direct`.
 const DIRECT: &str = "\
-zovatsemo direct POLICY CAPTURE SCRIPT
+zovatsemo direct POLICY CAPTURE SCRIPT [--json | --summary[=json]]
 
 Prints what `replay` prints, computed with the policy's own tree of queues. It needs no target.
 
-    zovatsemo direct examples/office/policy examples/office/capture examples/office/script
+    zovatsemo direct examples/office/policy examples/office/capture examples/office/script --json
 ";
 
 /// The help text of `via`.

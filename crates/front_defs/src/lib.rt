@@ -10,5 +10,5 @@ mod view;
 
 pub use command::Command;
 pub use options::{Options, has_words, is_own, words_of};
-pub use rate::{RateFault, rate_in};
+pub use rate::{RateFault, overhead_in, rate_in};
 pub use view::View;

@@ -1,12 +1,139 @@
--- The forms of the replayer's arguments that the options give.
-use Rattle.front_defs.specs.Options.{words_of}
+-- What the options ask for: a run with the replayer's arguments that they give, or a study.
+use Rattle.std.specs.Prelude.{◌≡◌, refl, ℕ, nat_le, ◌&&◌, Bool, true, false, if◌then◌else◌, Option, None, Some, List, [], ◌∷◌, codes}
+use Rattle.std.specs.Borrow.{Bor}
+use Rattle.std.specs.Option.{option_and_then}
+use Rattle.sched_defs.specs.SendTime.{most_rate, most_overhead}
+use Rattle.sched_defs.specs.declared.rate.LinkRate.{LinkRate}
+use Rattle.tap_core.specs.Lists.{Entry}
+use Rattle.front_defs.specs.Options.{words_of, has_words}
+use Rattle.front_defs.specs.declared.command.Command.{Command}
+use Rattle.front_defs.specs.declared.command.Command.TheVariants as command
 use Rattle.front_defs.specs.declared.options.Options.{Options}
-use Rattle.replay_app.specs.Words.{Form, form_of}
-use Rattle.block_replay.specs.Words.{BlockForm, block_form_of}
+use Rattle.front_defs.specs.declared.view.View.{View}
+use Rattle.front_defs.specs.declared.view.View.TheVariants as view
+use Rattle.replay_app.specs.Answer.{IsGiven}
+use Rattle.replay_app.specs.Output.{Answers}
+use Rattle.replay_app.specs.Statuses.{CanEnd}
+use Rattle.replay_app.specs.Words.{Form, form_of, file_words}
+use Rattle.block_replay.specs.Output.{IsBlockOutput}
+use Rattle.block_replay.specs.Words.{BlockForm, calm, CanBlockEnd, block_form_of, block_file_words}
+use Rattle.study.specs.Files.{study_files, CanStudyEnd}
+use Rattle.study.specs.Studied.{IsStudied}
+use Rattle.study.specs.declared.parts.Drive.{Drive}
+use Rattle.study.specs.declared.parts.Drive.TheVariants.{Script, Link, Forward}
+use Rattle.study.specs.declared.parts.Study.{Study}
+use Rattle.study.specs.declared.parts.View as study
+use Rattle.study.specs.declared.parts.View.TheVariants as studied
 
+-- ---- studies
+abbrev pub study_view : View → study.View
+study_view view.Report = studied.Report
+study_view view.Json = studied.Json
+study_view view.Summary = studied.Summary
+study_view view.JsonSummary = studied.JsonSummary
+
+-- a link of this many bytes per second, and bytes for each packet besides its length, if both are in
+-- range
+abbrev pub link_rate : Option ℕ → ℕ → Option LinkRate
+link_rate bytes overhead =
+    option_and_then (λ b. if nat_le 1 b && nat_le b most_rate && nat_le overhead most_overhead
+        then Some (record { bytes = b; overhead = overhead }) else None) bytes
+
+-- a script paces a run over a capture, with or without a target
+abbrev pub scripted : Bor (List ℕ) → Option (Bor (List ℕ)) → Bor (List ℕ) → Bor (List ℕ) → study.View → Study
+scripted p target c e shown = record { policy = p; target = target; capture = c; drive = Script e; view = shown }
+
+-- a link paces a run: the files are a policy and a capture, and a target may be between them
+abbrev pub linked : List (Bor (List ℕ)) → Drive → study.View → Option Study
+linked (p ∷ c ∷ []) drive shown = Some (record { policy = p; target = None; capture = c; drive = drive; view = shown })
+linked (p ∷ t ∷ c ∷ []) drive shown = Some (record { policy = p; target = Some t; capture = c; drive = drive; view = shown })
+linked files drive shown = None
+
+-- the study of a command with these files, and with this link if it has one
+abbrev pub study_by : Command → List (Bor (List ℕ)) → Option LinkRate → study.View → Option Study
+study_by command.Direct (p ∷ c ∷ e ∷ []) rate shown = Some (scripted p None c e shown)
+study_by command.Replay (p ∷ t ∷ c ∷ e ∷ []) rate shown = Some (scripted p (Some t) c e shown)
+study_by command.Link files (Some rate) shown = linked files (Link rate) shown
+study_by command.Forward files (Some rate) shown = linked files (Forward rate) shown
+study_by other files rate shown = None
+
+-- the study that the options ask for, if the replayer has no arguments for them
+abbrev pub study_asked : Options → Option Study
+study_asked o = if has_words o then None else study_by o.command o.files.items (link_rate o.rate o.overhead) (study_view o.view)
+
+-- ---- what a command line asks for
+pub data Asked : Type 0 where
+  -- a study
+  study_of : Study → Asked
+  -- a run with the replayer's arguments
+  run_of : Form → Asked
+  -- such a run on rank stores
+  block_of : BlockForm → Asked
+
+-- the forms of the replayer's arguments that the options give
 abbrev pub form_asked : Options → Form
-form_asked options = form_of (words_of options)
+form_asked o = form_of (words_of o)
 
--- the form for the program on rank stores
 abbrev pub block_form_asked : Options → BlockForm
-block_form_asked options = block_form_of (words_of options)
+block_form_asked o = block_form_of (words_of o)
+
+abbrev pub words_asked_by : Bool → Form → BlockForm → Asked
+words_asked_by false form block_form = run_of form
+words_asked_by true form block_form = block_of block_form
+
+-- the run with the replayer's arguments
+abbrev pub words_asked : Options → Asked
+words_asked o = words_asked_by o.block (form_asked o) (block_form_asked o)
+
+-- a study, or otherwise the run
+abbrev pub asked_by : Option Study → Asked → Asked
+asked_by (Some wanted) run = study_of wanted
+asked_by None run = run
+
+abbrev pub asked : Options → Asked
+asked o = asked_by (study_asked o) (words_asked o)
+
+-- the names of the files that are read
+abbrev pub asked_files : Asked → List (List ℕ)
+asked_files (study_of wanted) = study_files wanted
+asked_files (run_of form) = file_words form
+asked_files (block_of form) = block_file_words form
+
+-- the output for the contents of these files and for taps, with its status
+abbrev pub AnswersAsked : Asked → (List ℕ → List ℕ) → List Entry → ℕ → Option (List ℕ) → Option (List ℕ) → Type 0
+AnswersAsked (study_of wanted) contents taps status old new = IsGiven (IsStudied wanted contents) status old new
+AnswersAsked (run_of form) contents taps status old new = Answers form contents taps status old new
+AnswersAsked (block_of form) contents taps status old new = IsGiven (IsBlockOutput form contents taps) status old new
+
+-- the status is possible
+abbrev pub CanEndAsked : Asked → ℕ → Type 0
+CanEndAsked (study_of wanted) status = CanStudyEnd wanted status
+CanEndAsked (run_of form) status = CanEnd form status
+CanEndAsked (block_of form) status = CanBlockEnd form status
+
+a_link_with_overhead : link_rate (Some 1250000) 24 ≡ Some (record { bytes = 1250000; overhead = 24 })
+a_link_with_overhead = refl
+
+a_link_of_no_rate : link_rate (Some 0) 24 ≡ None
+a_link_of_no_rate = refl
+
+direct_as_json : (p c e : Bor (List ℕ)) → study_by command.Direct (p ∷ c ∷ e ∷ []) None studied.Json ≡ Some (scripted p None c e studied.Json)
+direct_as_json p c e = refl
+
+replay_in_sums : (p t c e : Bor (List ℕ)) → study_by command.Replay (p ∷ t ∷ c ∷ e ∷ []) None studied.Summary ≡ Some (scripted p (Some t) c e studied.Summary)
+replay_in_sums p t c e = refl
+
+link_without_a_target : (p c : Bor (List ℕ)) (rate : LinkRate) → study_by command.Link (p ∷ c ∷ []) (Some rate) studied.Report
+    ≡ Some (record { policy = p; target = None; capture = c; drive = Link rate; view = studied.Report })
+link_without_a_target p c rate = refl
+
+forward_with_a_target : (p t c : Bor (List ℕ)) (rate : LinkRate) → study_by command.Forward (p ∷ t ∷ c ∷ []) (Some rate) studied.Report
+    ≡ Some (record { policy = p; target = Some t; capture = c; drive = Forward rate; view = studied.Report })
+forward_with_a_target p t c rate = refl
+
+a_plan_is_no_study : (p t : Bor (List ℕ)) → study_by command.Plan (p ∷ t ∷ []) None studied.Json ≡ None
+a_plan_is_no_study p t = refl
+
+rank_stores_have_a_form : words_asked_by true (form_of (codes "calm" ∷ codes "p" ∷ codes "t" ∷ [])) (block_form_of (codes "calm" ∷ codes "p" ∷ codes "t" ∷ []))
+    ≡ block_of (calm (codes "p") (codes "t"))
+rank_stores_have_a_form = refl

@@ -1,5 +1,5 @@
 //! The calls that run the replayer.
-ghost use Rattle.std.specs.Prelude.{◌≡◌, ◌<◌, ◌^◌, IsTrue, IsFalse};
+ghost use Rattle.std.specs.Prelude.{◌≡◌, ◌<◌, ◌^◌};
 ghost use Rattle.outside_core.specs.Faults.{Rose};
 ghost use Rattle.tap_core.specs.Lists.{entries};
 ghost use Rattle.replay_app.specs.Answer.{IsGiven};
@@ -9,8 +9,11 @@ ghost use Rattle.replay_app.specs.Words.{AreLent, WhereTold, file_words};
 ghost use Rattle.block_replay.specs.Output.{IsBlockOutput};
 ghost use Rattle.block_replay.specs.Words.{block_file_words, CanBlockEnd};
 ghost use Rattle.front_core.specs.Catching.{told, kept_of, below_of};
-ghost use Rattle.zovatsemo.specs.Front.{form_asked, block_form_asked};
+ghost use Rattle.study.specs.Files.{study_files, HasLinkRate, CanStudyEnd};
+ghost use Rattle.study.specs.Studied.{IsStudied};
+ghost use Rattle.zovatsemo.specs.Front.{form_asked, block_form_asked, words_asked, asked, asked_files, AnswersAsked, CanEndAsked};
 
+use crate::asked::study_asked;
 use block_core::BlockFabric;
 use block_replay::block_run;
 use fabric_core::{Fabric, FlatFabric};
@@ -19,6 +22,7 @@ use front_defs::{Options, words_of};
 use outside_core::{Shelf, Sink};
 use replay_app::run;
 use std::alloc::Global;
+use study::{Study, study};
 use tap_core::Tap;
 
 /// Exit status: out of memory before the run.
@@ -78,32 +82,51 @@ fn run_blocks<S: Shelf, K: Sink>(
     }
 }
 
-/// Runs the replayer with the arguments that the options give, and does nothing else. With the
-/// option for rank stores that is `block_run`, and otherwise `run`. Under `--plain`, the sink is
-/// the output itself.
-pub fn front_run<S: Shelf, K: Sink>(
+/// Runs a study, on rank stores if `block` and the study has a target.
+fn run_study<S: Shelf, K: Sink>(
+    alloc: Global,
+    block: bool,
+    wanted: &Study<'_>,
+    shelf: &mut S,
+    sink: &mut K,
+) -> u8
+    requires lent { AreLent (S.lends shelf.old) (study_files wanted.now) }
+    requires rate { HasLinkRate wanted.now.drive }
+
+    ensures answer { WhereTold (S.content shelf.old) (study_files wanted.now) (λ contents.
+        IsGiven (IsStudied wanted.now contents) result (K.written sink.old) (K.written sink.new)) }
+    ensures statuses { CanStudyEnd wanted.now result }
+    ensures shelf_cause { result ≡ 8 → Rose (S.faults shelf.old) (S.faults shelf.new) }
+    ensures sink_cause { result ≡ 9 → Rose (K.faults sink.old) (K.faults sink.new) }
+{
+    if block {
+        match BlockFabric::new(alloc) {
+            Ok(mut fabric) => study(alloc, wanted, shelf, sink, &mut fabric),
+            Err(_) => NO_MEMORY,
+        }
+    } else {
+        match FlatFabric::new(alloc) {
+            Ok(mut fabric) => study(alloc, wanted, shelf, sink, &mut fabric),
+            Err(_) => NO_MEMORY,
+        }
+    }
+}
+
+/// Runs the replayer with the arguments that the options give, on rank stores if they say so.
+fn run_words<S: Shelf, K: Sink>(
     alloc: Global,
     options: &Options<'_>,
     shelf: &mut S,
     sink: &mut K,
     taps: &mut Vec<Box<dyn Tap>>,
 ) -> u8
-    requires lent { IsFalse options.now.block → AreLent (S.lends shelf.old)
-        (file_words (form_asked options.now)) }
-    requires block_lent { IsTrue options.now.block → AreLent (S.lends shelf.old)
-        (block_file_words (block_form_asked options.now)) }
+    requires lent { AreLent (S.lends shelf.old) (asked_files (words_asked options.now)) }
 
-    ensures answer { IsFalse options.now.block → WhereTold (S.content shelf.old)
-        (file_words (form_asked options.now)) (λ contents.
-        Answers (form_asked options.now) contents (entries kind_of state_of taps.old.items) result
+    ensures answer { WhereTold (S.content shelf.old) (asked_files (words_asked options.now))
+        (λ contents.
+        AnswersAsked (words_asked options.now) contents (entries kind_of state_of taps.old.items) result
         (K.written sink.old) (K.written sink.new)) }
-    ensures block_answer { IsTrue options.now.block → WhereTold (S.content shelf.old)
-        (block_file_words (block_form_asked options.now)) (λ contents.
-        IsGiven (IsBlockOutput (block_form_asked options.now) contents (entries kind_of state_of taps.old.items)) result
-        (K.written sink.old) (K.written sink.new)) }
-    ensures statuses { IsFalse options.now.block → CanEnd (form_asked options.now) result }
-    ensures block_statuses { IsTrue options.now.block → CanBlockEnd (block_form_asked options.now)
-        result }
+    ensures statuses { CanEndAsked (words_asked options.now) result }
     ensures shelf_cause { result ≡ 8 → Rose (S.faults shelf.old) (S.faults shelf.new) }
     ensures sink_cause { result ≡ 9 → Rose (K.faults sink.old) (K.faults sink.new) }
 {
@@ -120,8 +143,33 @@ pub fn front_run<S: Shelf, K: Sink>(
     }
 }
 
-/// Does the same, but holds the `fault` line back. The output gets all that the replayer writes
-/// except the bytes held back.
+/// Runs what the options ask for, and does nothing else: a study, or the replayer with the arguments
+/// that they give, which is `block_run` with the option for rank stores and otherwise `run`. Under
+/// `--plain`, the sink is the output itself.
+pub fn front_run<S: Shelf, K: Sink>(
+    alloc: Global,
+    options: &Options<'_>,
+    shelf: &mut S,
+    sink: &mut K,
+    taps: &mut Vec<Box<dyn Tap>>,
+) -> u8
+    requires lent { AreLent (S.lends shelf.old) (asked_files (asked options.now)) }
+
+    ensures answer { WhereTold (S.content shelf.old) (asked_files (asked options.now)) (λ contents.
+        AnswersAsked (asked options.now) contents (entries kind_of state_of taps.old.items) result
+        (K.written sink.old) (K.written sink.new)) }
+    ensures statuses { CanEndAsked (asked options.now) result }
+    ensures shelf_cause { result ≡ 8 → Rose (S.faults shelf.old) (S.faults shelf.new) }
+    ensures sink_cause { result ≡ 9 → Rose (K.faults sink.old) (K.faults sink.new) }
+{
+    match study_asked(options) {
+        Some(wanted) => run_study(alloc, options.block, &wanted, shelf, sink),
+        None => run_words(alloc, options, shelf, sink, taps),
+    }
+}
+
+/// Does the same, but holds the `fault` line back. The output gets all that is written except the
+/// bytes held back.
 pub fn front_caught<S: Shelf, K: Sink + Drop>(
     alloc: Global,
     options: &Options<'_>,
@@ -129,24 +177,13 @@ pub fn front_caught<S: Shelf, K: Sink + Drop>(
     sink: &mut Catching<K>,
     taps: &mut Vec<Box<dyn Tap>>,
 ) -> u8
-    requires lent { IsFalse options.now.block → AreLent (S.lends shelf.old)
-        (file_words (form_asked options.now)) }
-    requires block_lent { IsTrue options.now.block → AreLent (S.lends shelf.old)
-        (block_file_words (block_form_asked options.now)) }
+    requires lent { AreLent (S.lends shelf.old) (asked_files (asked options.now)) }
 
-    ensures answer { IsFalse options.now.block → WhereTold (S.content shelf.old)
-        (file_words (form_asked options.now)) (λ contents.
-        Answers (form_asked options.now) contents (entries kind_of state_of taps.old.items) result
+    ensures answer { WhereTold (S.content shelf.old) (asked_files (asked options.now)) (λ contents.
+        AnswersAsked (asked options.now) contents (entries kind_of state_of taps.old.items) result
         (told (K.written (below_of sink.old)) (kept_of sink.old))
         (told (K.written (below_of sink.new)) (kept_of sink.new))) }
-    ensures block_answer { IsTrue options.now.block → WhereTold (S.content shelf.old)
-        (block_file_words (block_form_asked options.now)) (λ contents.
-        IsGiven (IsBlockOutput (block_form_asked options.now) contents (entries kind_of state_of taps.old.items)) result
-        (told (K.written (below_of sink.old)) (kept_of sink.old))
-        (told (K.written (below_of sink.new)) (kept_of sink.new))) }
-    ensures statuses { IsFalse options.now.block → CanEnd (form_asked options.now) result }
-    ensures block_statuses { IsTrue options.now.block → CanBlockEnd (block_form_asked options.now)
-        result }
+    ensures statuses { CanEndAsked (asked options.now) result }
 {
     front_run(alloc, options, shelf, sink, taps)
 }

@@ -3,16 +3,18 @@ use crate::again::{add_detail, tell_ending, warn};
 use crate::files::{front_of, tell_unread};
 use crate::front::{front_caught, front_run};
 use crate::output::{NO_OUTPUT, Output};
+use crate::progress::Watched;
 use crate::told::tell;
 use front_core::{
-    Asked, Catching, Mistake, Request, ask, fault_in, file_of, help_of, help_of_all, tell_fault,
+    Asked, Catching, Fault, Mistake, Request, ask, fault_in, file_of, help_of, help_of_all, tell_fault,
     tell_mistake,
 };
-use front_defs::{Command, Options};
+use front_defs::{Command, Options, View};
 use outside_core::{FileShelf, StdSink};
 use replay_app::{NO_FORM, refuse, stop_status};
 use report_core::FaultKind;
 use std::alloc::AllocError;
+use std::io::IsTerminal;
 use std::process::ExitCode;
 use std::{env, io};
 use tap_core::{BytesTap, DropsTap, FirstTap, OrderTap, Tap};
@@ -44,12 +46,9 @@ fn words_of(rt: &HostRuntime) -> io::Result<Vec<String>> {
     Ok(words)
 }
 
-/// Writes the message for a `fault` line to standard error.
-fn tell_line(rt: &HostRuntime, options: &Options<'_>, line: &[u8]) -> Result<(), AllocError> {
-    let Some(fault) = fault_in(rt.alloc(), line) else {
-        return Ok(());
-    };
-    let name = match file_of(options.command, fault.kind) {
+/// Writes the message for an error that the output names to standard error.
+fn tell_of(rt: &HostRuntime, options: &Options<'_>, fault: Fault) -> Result<(), AllocError> {
+    let name = match file_of(options, fault.kind) {
         Some(place) if place < options.files.len() => options.files[place],
         _ => "zovatsemo",
     };
@@ -63,24 +62,48 @@ fn tell_line(rt: &HostRuntime, options: &Options<'_>, line: &[u8]) -> Result<(),
     Ok(())
 }
 
-/// Writes why a run ended with this status to standard error, using the `fault` line if there is
-/// one.
+/// Returns the error that the output names: in the `fault` line that is held back, or in the last
+/// JSON line.
+fn fault_told(
+    rt: &HostRuntime,
+    options: &Options<'_>,
+    sink: &Catching<Output<'_>>,
+) -> Option<Fault> {
+    match sink.kept() {
+        [line @ .., b'\n'] => fault_in(rt.alloc(), line),
+        _ if options.view == View::Json => sink.below().tail().fault(),
+        _ => None,
+    }
+}
+
+/// Writes why a run ended with this status to standard error, using the error that the output names
+/// if there is one.
 fn tell_end(
     rt: &HostRuntime,
     options: &Options<'_>,
     status: u8,
     sink: &Catching<Output<'_>>,
 ) -> Result<(), AllocError> {
-    match sink.kept() {
-        _ if status == 0 => {
+    match (status, fault_told(rt, options, sink)) {
+        (0, _) => {
             let _ = warn(rt, options);
         }
-        _ if status == NO_OUTPUT => sink.below().tell_failure(options.command)?,
-        [line @ .., b'\n'] => tell_line(rt, options, line)?,
-        _ if status == 8 => tell_unread(rt, options)?,
+        (NO_OUTPUT, _) => sink.below().tell_failure(options.command)?,
+        (_, Some(fault)) => tell_of(rt, options, fault)?,
+        (8, None) => tell_unread(rt, options)?,
         _ => tell_ending(rt, options, status)?,
     }
     Ok(())
+}
+
+/// Returns whether lines about the progress of a run don't mix with its output: that goes elsewhere
+/// than to a terminal, or comes at the end.
+fn shows_progress(rt: &HostRuntime, request: &Request<'_>) -> bool {
+    let is_last = matches!(
+        request.options.view,
+        View::Summary | View::JsonSummary
+    );
+    is_last || request.output.is_some() || !rt.stdout().is_terminal()
 }
 
 /// Runs the requested command. If it fails, writes a message to standard error, unless `--quiet` is
@@ -93,9 +116,11 @@ fn run_told(
 ) -> Result<u8, AllocError> {
     let alloc = rt.alloc();
     let options = &request.options;
-    let mut shelf = FileShelf::new(rt.clone()?);
+    let shows = !request.quiet && shows_progress(rt, request);
+    let mut shelf = Watched::new(rt.clone()?, FileShelf::new(rt.clone()?), shows);
     let mut sink = Catching::new(alloc, below, options.command == Command::Forward)?;
     let status = front_caught(alloc, options, &mut shelf, &mut sink, taps);
+    shelf.erase();
     let is_done = status == 0 || status == 14 || status == 15;
     let is_lost = is_done && sink.release().is_err();
     let status = if is_lost { NO_OUTPUT } else { status };
@@ -105,7 +130,7 @@ fn run_told(
     Ok(status)
 }
 
-/// Runs the requested command under `--plain`: the output gets all that the replayer writes.
+/// Runs the requested command under `--plain`: the output gets all that is written.
 fn run_plain(
     rt: &HostRuntime,
     options: &Options<'_>,

@@ -2,7 +2,7 @@
 ghost use Rattle.std.specs.Prelude.{◌≡◌, ◌≤◌, length, IfOk};
 
 use crate::told::tell;
-use front_core::{tell_status, with_detail};
+use front_core::{Tail, tell_status, with_detail};
 use front_defs::Command;
 use outside_core::{Sink, SinkError};
 use std::alloc::AllocError;
@@ -21,6 +21,7 @@ pub struct Output<'a> {
     file: Option<File>,
     failure: Option<io::Error>,
     faults: u64,
+    tail: Tail,
 }
 
 impl<'a> Output<'a> {
@@ -32,7 +33,13 @@ impl<'a> Output<'a> {
             file: None,
             failure: None,
             faults: 0,
+            tail: Tail::new(),
         }
+    }
+
+    /// Returns the last bytes that were written.
+    pub fn tail(&self) -> &Tail {
+        &self.tail
     }
 
     /// Writes some bytes from the front of the piece, and returns how many. Creates the file first
@@ -91,7 +98,10 @@ impl<'a> Sink for Output<'a> {
 
     fn write(&mut self, piece: &[u8]) -> Result<usize, SinkError> {
         match self.put(piece) {
-            Ok(count) if 0 < count => Ok(count),
+            Ok(count) if 0 < count => {
+                self.tail.note(&piece[..count]);
+                Ok(count)
+            }
             Ok(_) => {
                 self.faults = self.faults.saturating_add(1);
                 Err(SinkError::Failed)
