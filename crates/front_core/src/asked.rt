@@ -41,12 +41,7 @@ pub enum Asked<'a> {
 fn see_number<'a>(place: usize, word: &'a str, most: u64) -> Result<(), Mistake<'a>> {
     match decimal(word.as_bytes()) {
         Some(number) if number <= most => Ok(()),
-        _ => Err(Mistake::NoNumber(
-            Command::Soak,
-            argument_of(Command::Soak, place),
-            word,
-            most,
-        )),
+        _ => Err(Mistake::NoNumber(Command::Soak, argument_of(Command::Soak, place), word, most)),
     }
 }
 
@@ -166,12 +161,7 @@ fn take_overhead<'a>(command: Command, word: Option<&'a str>) -> Result<u32, Mis
     };
     match overhead_in(word.as_bytes()) {
         Some(bytes) => Ok(bytes),
-        None => Err(Mistake::NoNumber(
-            command,
-            "BYTES",
-            word,
-            MOST_OVERHEAD as u64,
-        )),
+        None => Err(Mistake::NoNumber(command, "BYTES", word, MOST_OVERHEAD as u64)),
     }
 }
 

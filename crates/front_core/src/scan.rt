@@ -156,13 +156,12 @@ impl<'a> Scan<'a> {
 
     /// Sets the view. Fails if another one is set.
     fn set_view(&mut self, view: View) -> Result<(), Mistake<'a>> {
-        match self.view {
-            Some(other) if other != view => Err(Mistake::TwoViews),
-            _ => {
-                self.view = Some(view);
-                Ok(())
-            }
+        let is_other = self.view.is_some_and(|other| other != view);
+        if is_other {
+            return Err(Mistake::TwoViews);
         }
+        self.view = Some(view);
+        Ok(())
     }
 
     /// Sets a long option with a value. Returns whether the value is the next argument.

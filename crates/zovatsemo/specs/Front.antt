@@ -37,7 +37,7 @@ study_view view.JsonSummary = studied.JsonSummary
 abbrev pub link_rate : Option ℕ → ℕ → Option LinkRate
 link_rate bytes overhead =
     option_and_then (λ b. if nat_le 1 b && nat_le b most_rate && nat_le overhead most_overhead
-        then Some (record { bytes = b; overhead = overhead }) else None) bytes
+    then Some (record { bytes = b; overhead = overhead }) else None) bytes
 
 -- a script paces a run over a capture, with or without a target
 abbrev pub scripted : Bor (List ℕ) → Option (Bor (List ℕ)) → Bor (List ℕ) → Bor (List ℕ) → study.View → Study

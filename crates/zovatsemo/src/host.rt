@@ -6,8 +6,8 @@ use crate::output::{NO_OUTPUT, Output};
 use crate::progress::Watched;
 use crate::told::tell;
 use front_core::{
-    Asked, Catching, Fault, Mistake, Request, ask, fault_in, file_of, help_of, help_of_all, tell_fault,
-    tell_mistake,
+    Asked, Catching, Fault, Mistake, Request, ask, fault_in, file_of, help_of, help_of_all,
+    tell_fault, tell_mistake,
 };
 use front_defs::{Command, Options, View};
 use outside_core::{FileShelf, StdSink};
@@ -99,10 +99,7 @@ fn tell_end(
 /// Returns whether lines about the progress of a run don't mix with its output: that goes elsewhere
 /// than to a terminal, or comes at the end.
 fn shows_progress(rt: &HostRuntime, request: &Request<'_>) -> bool {
-    let is_last = matches!(
-        request.options.view,
-        View::Summary | View::JsonSummary
-    );
+    let is_last = matches!(request.options.view, View::Summary | View::JsonSummary);
     is_last || request.output.is_some() || !rt.stdout().is_terminal()
 }
 
