@@ -12,7 +12,7 @@ pub struct Fault {
 }
 
 /// Returns the kind of error with this name.
-pub fn kind_named(word: &[u8]) -> Option<FaultKind> {
+fn kind_named(word: &[u8]) -> Option<FaultKind> {
     Some(match word {
         b"words" => FaultKind::Words,
         b"policy" => FaultKind::Policy,

@@ -25,7 +25,7 @@ RATE is 10Mbit, 10gbit, 1.25MB or 125000 (bytes a second). The file - is standar
     --overhead BYTES      bytes that link and forward add to each packet, 0 to 65535; Ethernet has 24
 -t, --tap NAME            one more line at the end of replay: bytes, order, first or drops
     --plain               write the line `fault KIND CODE PLACE` too, and no messages
-    --summary[=json]      write sums of direct, replay or link in place of events
+    --summary[=json]      write sums of direct, replay or link instead of events
 -q, --quiet               write no messages
 -V, --version             the version
 ";
@@ -66,7 +66,7 @@ zovatsemo link POLICY [TARGET] CAPTURE RATE [--overhead BYTES] [--json | --summa
 
 Runs the packets of a capture through the target's queues, at their timestamps, or without a target through the policy's
 own tree. A link of RATE takes them out. Prints what `replay` prints, and the time in nanoseconds at which each packet
-starts on the link. With --summary it prints delays, throughput and backlog in place of events.
+starts on the link. With --summary it prints delays, throughput and backlog instead of events.
 
     zovatsemo link examples/office/policy examples/office/capture 1Mbit --overhead 24 --summary
 ";

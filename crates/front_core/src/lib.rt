@@ -21,7 +21,6 @@ mod say;
 mod scan;
 mod sizes;
 mod statements;
-mod tail;
 mod tell;
 
 pub use asked::{Asked, Request, ask};
@@ -36,5 +35,4 @@ pub use mistakes::tell_mistake;
 pub use names::{COMMANDS, OPTIONS, TAPS, argument_of, form_of};
 pub use paint::painted;
 pub use sizes::size_detail;
-pub use tail::Tail;
 pub use tell::{tell_fault, tell_status};

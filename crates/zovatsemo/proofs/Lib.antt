@@ -1,1 +1,2 @@
 pub mod StoppedLaws
+pub mod AskedLaws

@@ -11,7 +11,9 @@ use Rattle.replay_app.specs.Words.{Form, WhereTold, file_words, form_in, form_of
 use Rattle.block_replay.specs.Output.{IsBlockOutput}
 use Rattle.block_replay.specs.Words.{BlockForm, CanBlockEnd, block_file_words, block_form_in, block_form_of}
 use Rattle.tap_core.specs.Lists.{Entry}
-use Rattle.zovatsemo.specs.Front.{form_asked, block_form_asked}
+use Rattle.study.specs.Files.{CanStudyEnd}
+use Rattle.study.specs.declared.parts.Study.{Study}
+use Rattle.zovatsemo.specs.Front.{form_asked, block_form_asked, Asked, study_of, run_of, block_of, AnswersAsked, CanEndAsked}
 
 pub no_memory : IsStop 10
 no_memory = search rules
@@ -48,3 +50,17 @@ pub block_answered_so : (content : List ℕ → Option (List ℕ)) (taps : List 
 block_answered_so content taps status old new given asked same =
     let P : BlockForm → Type 0 = λ form. WhereTold content (block_file_words form) (λ contents. IsGiven (IsBlockOutput form contents taps) status old new) in
     subst P same
+
+-- ---- for all that options ask for
+pub study_ends_so : (wanted : Study) → CanStudyEnd wanted 10
+study_ends_so wanted = inr no_memory
+
+pub asked_nothing : (a : Asked) (contents : List ℕ → List ℕ) (taps : List Entry) (old : Option (List ℕ)) → AnswersAsked a contents taps 10 old old
+asked_nothing (study_of wanted) contents taps old = given_nothing _ old
+asked_nothing (run_of form) contents taps old = given_nothing _ old
+asked_nothing (block_of form) contents taps old = given_nothing _ old
+
+pub asked_ends_so : (a : Asked) → CanEndAsked a 10
+asked_ends_so (study_of wanted) = inr no_memory
+asked_ends_so (run_of form) = inr no_memory
+asked_ends_so (block_of form) = inr no_memory

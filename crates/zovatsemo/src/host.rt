@@ -71,7 +71,7 @@ fn fault_told(
 ) -> Option<Fault> {
     match sink.kept() {
         [line @ .., b'\n'] => fault_in(rt.alloc(), line),
-        _ if options.view == View::Json => sink.below().tail().fault(),
+        _ if options.view == View::Json => sink.below().tail().fault(rt.alloc()),
         _ => None,
     }
 }

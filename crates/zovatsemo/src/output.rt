@@ -1,8 +1,9 @@
 //! The output: standard output, or a new file.
 ghost use Rattle.std.specs.Prelude.{◌≡◌, ◌≤◌, length, IfOk};
 
+use crate::tail::Tail;
 use crate::told::tell;
-use front_core::{Tail, tell_status, with_detail};
+use front_core::{tell_status, with_detail};
 use front_defs::Command;
 use outside_core::{Sink, SinkError};
 use std::alloc::AllocError;

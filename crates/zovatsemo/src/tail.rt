@@ -1,9 +1,9 @@
 //! The last bytes of an output, and the error that a JSON line at its end says.
 ghost use Rattle.std.specs.Prelude.{◌≤◌, length};
 
-use crate::fault::{Fault, kind_named};
+use front_core::{Fault, fault_in};
+use std::alloc::Global;
 use std::str;
-use text_core::decimal;
 
 /// The bytes that are kept: more than the JSON line of an error has.
 const MOST_KEPT: usize = 128;
@@ -28,13 +28,15 @@ impl Tail {
         self.bytes[MOST_KEPT - count..].copy_from_slice(&piece[piece.len() - count..]);
     }
 
-    /// Returns the error that the last line says, if it is a JSON line of an error.
-    pub fn fault(&self) -> Option<Fault> {
-        let [before @ .., b'\n'] = self.bytes.as_slice() else {
+    /// Returns the error that the last line says, if it is a JSON line of an error. Returns none if
+    /// out of memory.
+    pub fn fault(&self, alloc: Global) -> Option<Fault> {
+        let (last, before) = self.bytes.split_last()?;
+        if *last != b'\n' {
             return None;
-        };
+        }
         let (_, line) = before.split_at(line_start(before));
-        fault_in_json(str::from_utf8(line).ok()?)
+        fault_in_json(alloc, str::from_utf8(line).ok()?)
     }
 }
 
@@ -43,23 +45,20 @@ fn line_start(bytes: &[u8]) -> usize
     ensures { result ≤ length bytes.now }
 {
     let mut at = 0;
-    for place in 0..bytes.len() {
-        if bytes[place] == b'\n' || bytes[place] == 0 {
-            at = place + 1;
+    for index in 0..bytes.len() {
+        if bytes[index] == b'\n' || bytes[index] == 0 {
+            at = index + 1;
         }
     }
     at.min(bytes.len())
 }
 
-/// Parses the JSON line of an error, as event_json writes it.
-fn fault_in_json(line: &str) -> Option<Fault> {
+/// Parses the JSON line of an error, as event_json writes it: its kind, its code and its position.
+fn fault_in_json(alloc: Global, line: &str) -> Option<Fault> {
     let rest = line.strip_prefix("{\"kind\":\"fault\",\"input\":\"")?;
     let (kind, rest) = rest.split_once("\",\"code\":")?;
-    let (code, rest) = rest.split_once(",\"place\":")?;
-    let place = rest.strip_suffix("}")?;
-    Some(Fault {
-        kind: kind_named(kind.as_bytes())?,
-        code: decimal(code.as_bytes())?,
-        place: decimal(place.as_bytes())?,
-    })
+    let (code, _) = rest.split_once(',')?;
+    let (_, position) = rest.strip_suffix("}")?.rsplit_once(':')?;
+    let line = format!(in alloc; "fault {kind} {code} {position}").ok()?;
+    fault_in(alloc, line.as_bytes())
 }
