@@ -4,11 +4,11 @@ use std::fs;
 use std::io::{IsTerminal, Write};
 use std::time::{Duration, Instant};
 
-/// The time before the first line is shown.
-const WAIT: Duration = Duration::from_secs(2);
+/// The milliseconds before the first line is shown.
+const WAIT: u64 = 2_000;
 
-/// The time between two lines.
-const BETWEEN: Duration = Duration::from_millis(200);
+/// The milliseconds between two lines.
+const BETWEEN: u64 = 200;
 
 /// More blanks than a line has letters.
 const BLANKS: &[u8] = b"                                        \r";
@@ -73,7 +73,7 @@ impl Line {
         if elapsed < self.next {
             return;
         }
-        self.next = elapsed.saturating_add(BETWEEN);
+        self.next = elapsed.saturating_add(Duration::from_millis(BETWEEN));
         self.show();
     }
 
@@ -109,7 +109,7 @@ impl<S: Shelf + Drop> Watched<S> {
             line: Line {
                 rt,
                 start,
-                next: WAIT,
+                next: Duration::from_millis(WAIT),
                 read: 0,
                 size: None,
                 is_shown: false,
