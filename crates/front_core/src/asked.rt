@@ -1,8 +1,6 @@
 //! The request that a command line makes.
 use crate::mistake::Mistake;
-use crate::names::{
-    TAPS, argument_of, command_named, count_of, least_of, option_of, place_in_form,
-};
+use crate::names::{TAPS, argument_of, command_named, count_of, least_of, place_in_form};
 use crate::scan::{Scan, tell_apart};
 use events_core::MOST_OVERHEAD;
 use front_defs::{Command, Options, RateFault, View, overhead_in, rate_in};
@@ -180,10 +178,10 @@ fn see_views<'a>(command: Command, scan: &Scan<'a>) -> Result<(), Mistake<'a>> {
         return Ok(());
     };
     if !has_views(command) {
-        return Err(Mistake::NoView(command, option_of(view)));
+        return Err(Mistake::NoView(command, view));
     }
     if !scan.taps.is_empty() {
-        return Err(Mistake::TapsWithView(option_of(view)));
+        return Err(Mistake::TapsWithView(view));
     }
     Ok(())
 }

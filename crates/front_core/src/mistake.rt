@@ -1,5 +1,5 @@
 //! Mistakes in a command line.
-use front_defs::{Command, RateFault};
+use front_defs::{Command, RateFault, View};
 use std::alloc::{AllocError, AllocFailed};
 
 /// A mistake in a command line.
@@ -46,11 +46,11 @@ pub enum Mistake<'a> {
     /// This overhead is a second one.
     OverheadTwice(&'a str),
     /// This command doesn't have this option for events or sums.
-    NoView(Command, &'static str),
+    NoView(Command, View),
     /// Two of the options for events and sums are given.
     TwoViews,
     /// Taps are given with this option for events or sums.
-    TapsWithView(&'static str),
+    TapsWithView(View),
     /// There is no such form of sums.
     NoSummary(&'a str),
     /// The output would overwrite this input.

@@ -2,10 +2,10 @@
 ghost use Rattle.std.specs.Prelude.{◌≤◌, length};
 
 use crate::mistake::Mistake;
-use crate::names::{COMMANDS, OPTIONS, TAPS, argument_of, form_of};
+use crate::names::{COMMANDS, OPTIONS, TAPS, argument_of, form_of, option_of};
 use crate::near::nearest;
 use crate::say::{say, say_around, say_names, say_short, say_thousands};
-use front_defs::{Command, RateFault};
+use front_defs::{Command, RateFault, View};
 use std::alloc::{AllocError, Global};
 
 /// The message for a rate that is too small or too great.
@@ -104,7 +104,7 @@ fn option_parts_of<'a>(mistake: Mistake<'a>) -> (&'static str, &'a str, &'static
             command.word(),
             ", which has no link: it is for link and forward",
         ),
-        Mistake::NoView(command, "--json") => (
+        Mistake::NoView(command, View::Json) => (
             "expected no --json at ",
             command.word(),
             ": it is for direct, replay and link",
@@ -114,9 +114,9 @@ fn option_parts_of<'a>(mistake: Mistake<'a>) -> (&'static str, &'a str, &'static
             command.word(),
             ": it is for direct, replay and link",
         ),
-        Mistake::TapsWithView(option) => (
+        Mistake::TapsWithView(view) => (
             "expected no taps with ",
-            option,
+            option_of(view),
             ": their lines end a report",
         ),
         Mistake::BlockWithoutTarget(command) => (
