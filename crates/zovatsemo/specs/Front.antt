@@ -49,12 +49,22 @@ linked (p ∷ c ∷ []) drive shown = Some (record { policy = p; target = None; 
 linked (p ∷ t ∷ c ∷ []) drive shown = Some (record { policy = p; target = Some t; capture = c; drive = drive; view = shown })
 linked files drive shown = None
 
+-- a script paces a run through the policy's own tree
+abbrev pub directed : List (Bor (List ℕ)) → study.View → Option Study
+directed (p ∷ c ∷ e ∷ []) shown = Some (scripted p None c e shown)
+directed files shown = None
+
+-- a script paces a run through the queues of a target
+abbrev pub replayed : List (Bor (List ℕ)) → study.View → Option Study
+replayed (p ∷ t ∷ c ∷ e ∷ []) shown = Some (scripted p (Some t) c e shown)
+replayed files shown = None
+
 -- the study of a command with these files, and with this link if it has one
 abbrev pub study_by : Command → List (Bor (List ℕ)) → Option LinkRate → study.View → Option Study
-study_by command.Direct (p ∷ c ∷ e ∷ []) rate shown = Some (scripted p None c e shown)
-study_by command.Replay (p ∷ t ∷ c ∷ e ∷ []) rate shown = Some (scripted p (Some t) c e shown)
-study_by command.Link files (Some rate) shown = linked files (Link rate) shown
-study_by command.Forward files (Some rate) shown = linked files (Forward rate) shown
+study_by command.Direct files rate shown = directed files shown
+study_by command.Replay files rate shown = replayed files shown
+study_by command.Link files rate shown = option_and_then (λ r. linked files (Link r) shown) rate
+study_by command.Forward files rate shown = option_and_then (λ r. linked files (Forward r) shown) rate
 study_by other files rate shown = None
 
 -- the study that the options ask for, if the replayer has no arguments for them

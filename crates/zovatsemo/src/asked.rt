@@ -2,7 +2,7 @@
 ghost use Rattle.std.specs.Prelude.{◌≡◌, IfSome};
 ghost use Rattle.sched_defs.specs.SendTime.{IsRate};
 ghost use Rattle.study.specs.Files.{HasLinkRate};
-ghost use Rattle.zovatsemo.specs.Front.{study_view, link_rate, linked, study_by, study_asked};
+ghost use Rattle.zovatsemo.specs.Front.{study_view, link_rate, linked, directed, replayed, study_by, study_asked};
 
 use events_core::{MOST_OVERHEAD, MOST_RATE};
 use front_defs::{Command, Options, has_words};
@@ -61,6 +61,40 @@ fn linked<'a>(files: &[&'a str], drive: Drive<'a>, view: View) -> Option<Study<'
     }
 }
 
+/// Returns the study of a policy and a capture that a script paces.
+fn directed<'a>(files: &[&'a str], view: View) -> Option<Study<'a>>
+    ensures value { result ≡ directed files.now view }
+    ensures rate { IfSome result (λ study. HasLinkRate study.drive) }
+{
+    match files {
+        [policy, capture, script] => Some(Study {
+            policy,
+            target: None,
+            capture,
+            drive: Drive::Script(script),
+            view,
+        }),
+        _ => None,
+    }
+}
+
+/// Returns the study of a policy, a target and a capture that a script paces.
+fn replayed<'a>(files: &[&'a str], view: View) -> Option<Study<'a>>
+    ensures value { result ≡ replayed files.now view }
+    ensures rate { IfSome result (λ study. HasLinkRate study.drive) }
+{
+    match files {
+        [policy, target, capture, script] => Some(Study {
+            policy,
+            target: Some(target),
+            capture,
+            drive: Drive::Script(script),
+            view,
+        }),
+        _ => None,
+    }
+}
+
 /// Returns the study of a command with these files, and with this link if it has one.
 fn study_by<'a>(
     command: Command,
@@ -72,23 +106,17 @@ fn study_by<'a>(
     ensures value { result ≡ study_by command files.now rate view }
     ensures rate { IfSome result (λ study. HasLinkRate study.drive) }
 {
-    match (command, files, rate) {
-        (Command::Direct, [policy, capture, script], _) => Some(Study {
-            policy,
-            target: None,
-            capture,
-            drive: Drive::Script(script),
-            view,
-        }),
-        (Command::Replay, [policy, target, capture, script], _) => Some(Study {
-            policy,
-            target: Some(target),
-            capture,
-            drive: Drive::Script(script),
-            view,
-        }),
-        (Command::Link, _, Some(rate)) => linked(files, Drive::Link(rate), view),
-        (Command::Forward, _, Some(rate)) => linked(files, Drive::Forward(rate), view),
+    match command {
+        Command::Direct => directed(files, view),
+        Command::Replay => replayed(files, view),
+        Command::Link => {
+            let rate = rate?;
+            linked(files, Drive::Link(rate), view)
+        }
+        Command::Forward => {
+            let rate = rate?;
+            linked(files, Drive::Forward(rate), view)
+        }
         _ => None,
     }
 }
