@@ -1,1 +1,5 @@
 pub mod Recorded
+pub mod Files
+pub mod Studied
+pub mod Placed
+pub mod Rows

@@ -1,7 +1,14 @@
-//! Runs over a capture that are recorded in another form than a report. Begin with
-//! specs/Recorded.antt.
+//! Runs for people: a link or a script through a policy's own tree of queues or through a fabric.
+//! The outcomes are written in the form that the caller chooses. Begin with specs/Studied.antt.
 #![tactic(auto)]
 
+mod command;
+mod parts;
 mod recorded;
+mod runs;
+mod stages;
+mod views;
 
+pub use command::study;
+pub use parts::{Drive, Study, View};
 pub use recorded::{Recorded, record_own, record_through};

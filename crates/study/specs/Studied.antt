@@ -1,0 +1,62 @@
+-- The output of a study for its files. A reader of the contract of `study` has to trust these
+-- definitions.
+use Rattle.std.specs.Prelude.{◌≡◌, ℕ, Option, None, Some, List}
+use Rattle.tree_defs.specs.Topology.{Topology, topology_of}
+use Rattle.policy_rules.specs.Resolved.{Resolved}
+use Rattle.sched_defs.specs.Pace as pace
+use Rattle.sched_defs.specs.declared.rate.LinkRate.{LinkRate}
+use Rattle.target_core.specs.declared.target.Target.{Target}
+use Rattle.sched_capture.specs.Forwards.{forward_answer}
+use Rattle.replay_app.specs.Answer.{Answer, text_alone}
+use Rattle.replay_app.specs.Output.{direct_run}
+use Rattle.replay_app.specs.Policies.{Judged, UnderPolicy}
+use Rattle.replay_app.specs.Scripts.{AlongScript, script_pace}
+use Rattle.replay_app.specs.Statuses.{status_code, forward_status}
+use Rattle.replay_app.specs.Targets.{ForTarget, WithRoom}
+use Rattle.study.specs.Files.{target_of}
+use Rattle.study.specs.declared.parts.Drive.{Drive}
+use Rattle.study.specs.declared.parts.Drive.TheVariants.{Script, Link, Forward}
+use Rattle.study.specs.declared.parts.Study.{Study}
+use Rattle.study.specs.declared.parts.View.{View}
+use Rattle.study.specs.declared.parts.View.TheVariants.{Report}
+
+-- The target needs room for a policy's tree. A run through a target gives the output of a run
+-- through the policy's own tree.
+abbrev pub FitsIn : Target → Topology → (Answer → Type 0) → Answer → Type 0
+FitsIn target tree after = WithRoom tree target (λ laid. after)
+
+-- the target is read
+abbrev pub ForTargetText : List ℕ → Topology → (Answer → Type 0) → Answer → Type 0
+ForTargetText text tree after = ForTarget text (λ target. FitsIn target tree after)
+
+-- the target, if there is one, is read
+abbrev pub InTarget : Option (List ℕ) → Topology → (List ℕ → List ℕ) → (Answer → Type 0) → Answer → Type 0
+InTarget None tree contents after = after
+InTarget (Some t) tree contents after = ForTargetText (contents t) tree after
+
+-- the output of a run over a capture, by its view
+abbrev pub IsViewed : View → Judged → pace.Pace → List ℕ → Answer → Type 0
+IsViewed Report judged paced capture = λ a. a ≡ direct_run judged.policy paced capture
+
+-- the departures of a link as a capture, and the status of the run
+abbrev pub departures : Resolved → LinkRate → List ℕ → Answer
+departures policy rate capture = text_alone (status_code (forward_status (forward_answer policy rate capture).ending)) (forward_answer policy rate capture).text
+
+-- the output of a run along the steps of the script of this name
+abbrev pub AlongSteps : List ℕ → View → Judged → List ℕ → (List ℕ → List ℕ) → Answer → Type 0
+AlongSteps e view judged capture contents = AlongScript (contents e) (λ steps. IsViewed view judged (script_pace steps) capture)
+
+-- the output of a run over a capture, by what paces it
+abbrev pub IsDriven : Drive → View → Judged → List ℕ → (List ℕ → List ℕ) → Answer → Type 0
+IsDriven (Script e) view judged capture contents = AlongSteps e.now view judged capture contents
+IsDriven (Link rate) view judged capture contents = IsViewed view judged (pace.Link rate) capture
+IsDriven (Forward rate) view judged capture contents = λ a. a ≡ departures judged.policy rate capture
+
+-- The output of a study for the contents of its files. Inputs are rejected or accepted in this
+-- order: the policy, the target, the target's room for the policy's tree, the script, and the
+-- capture, which is part of the run.
+abbrev pub IsStudied : Study → (List ℕ → List ℕ) → Answer → Type 0
+IsStudied s contents =
+    UnderPolicy (contents s.policy.now) (λ judged.
+    InTarget (target_of s) (topology_of judged.policy.policy.tree) contents (
+    IsDriven s.drive s.view judged (contents s.capture.now) contents))

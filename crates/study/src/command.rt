@@ -1,0 +1,46 @@
+//! The entry point.
+ghost use Rattle.std.specs.Prelude.{◌≡◌, ◌<◌, ◌≤◌, ◌^◌};
+ghost use Rattle.outside_core.specs.Faults.{Rose};
+ghost use Rattle.replay_app.specs.Answer.{IsGiven};
+ghost use Rattle.replay_app.specs.Words.{AreLent, WhereTold};
+ghost use Rattle.study.specs.Files.{study_files, HasLinkRate, CanStudyEnd};
+ghost use Rattle.study.specs.Studied.{IsStudied};
+
+use crate::parts::Study;
+use crate::stages::study_inputs;
+use fabric_core::Fabric;
+use outside_core::{Shelf, Sink};
+use replay_app::stop_status;
+use std::alloc::Global;
+
+/// Runs a study and returns the program's exit status, which has the meaning that it has for
+/// `replay_app::run`. If the study has a target, the packets go through the fabric. Otherwise they
+/// go through the policy's own tree of queues. The output is the same.
+pub fn study<S: Shelf, K: Sink, F: Fabric>(
+    alloc: Global,
+    study: &Study<'_>,
+    shelf: &mut S,
+    sink: &mut K,
+    fabric: &mut F,
+) -> u8
+    requires lent { AreLent (S.lends shelf.old) (study_files study.now) }
+    requires rate { HasLinkRate study.now.drive }
+    requires pushes { F.pushed fabric.old < 2 ^ 61 }
+    requires pops { F.popped fabric.old < 2 ^ 61 }
+
+    // If file contents are known to the contract: the output is written whole with its status, or a
+    // prefix of it with status 8, 9 or 10.
+    ensures answer { WhereTold (S.content shelf.old) (study_files study.now) (λ contents.
+        IsGiven (IsStudied study.now contents) result (K.written sink.old) (K.written sink.new)) }
+
+    // For any file contents: the guarantees that follow from the study alone.
+    ensures statuses { CanStudyEnd study.now result }
+    ensures shelf_cause { result ≡ 8 → Rose (S.faults shelf.old) (S.faults shelf.new) }
+    ensures sink_cause { result ≡ 9 → Rose (K.faults sink.old) (K.faults sink.new) }
+    ensures sink_later { K.faults sink.old ≤ K.faults sink.new }
+{
+    match study_inputs(alloc, study, shelf, sink, fabric) {
+        Ok(status) => status.code(),
+        Err(stop) => stop_status(stop),
+    }
+}

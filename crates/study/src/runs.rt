@@ -1,0 +1,96 @@
+//! Runs through a policy's own tree of queues, or through a fabric that holds it.
+ghost use Rattle.std.specs.Prelude.{◌≡◌, ◌<◌, ◌≤◌, ◌^◌, IfOk, IfSome, IsTrue, OnOk, OnErr, IsErrOf};
+ghost use Rattle.outside_core.specs.Faults.{Rose};
+ghost use Rattle.outside_core.specs.Written.{Appended, AppendedPrefix};
+ghost use Rattle.sched_defs.specs.SendTime.{IsRate};
+ghost use Rattle.sched_run.specs.Steps.{pace_of, IsBounded, CanEndSo};
+ghost use Rattle.sched_capture.specs.Answers.{paced_answer};
+ghost use Rattle.sched_capture.specs.Forwards.{forward_answer};
+ghost use Rattle.study.specs.Placed.{IsPlaced};
+
+use fabric_core::Fabric;
+use outside_core::{Shelf, Sink, Stop};
+use policy_core::Policy;
+use sched_capture::{Ending, ForwardEnding, Placement, Task, direct, forward, forward_own, replay};
+use sched_defs::LinkRate;
+use std::alloc::Global;
+use tap_core::{Named, OrderTap, Watching};
+
+/// Runs a task and writes its report. The packets go through the fabric if the policy's tree is
+/// placed, and otherwise through the policy's own tree.
+pub fn write_report<S: Shelf, K: Sink, F: Fabric>(
+    alloc: Global,
+    policy: &Policy,
+    place: Option<Placement>,
+    task: &Task<'_, '_>,
+    shelf: &mut S,
+    sink: &mut K,
+    fabric: &mut F,
+) -> Result<Ending, Stop>
+    requires lent { IsTrue (S.lends shelf.old task.now.capture.now) }
+    requires bounded { IsBounded task.now.pace }
+    requires placed { IfSome place (IsPlaced policy.now.policy) }
+    requires pushes { F.pushed fabric.old < 2 ^ 61 }
+    requires pops { F.popped fabric.old < 2 ^ 61 }
+
+    ensures ends { IfOk result (CanEndSo task.now.pace) }
+    ensures ending { IfOk result (λ e. IfSome (S.content shelf.old task.now.capture.now) (λ file.
+        e ≡ (paced_answer policy.now (pace_of task.now.pace) file).ending)) }
+    ensures text { OnOk result (IfSome (S.content shelf.old task.now.capture.now) (λ file.
+        Appended (K.written sink.old) (K.written sink.new) (paced_answer policy.now (pace_of task.now.pace) file).text)) }
+    ensures part { OnErr result (IfSome (S.content shelf.old task.now.capture.now) (λ file.
+        AppendedPrefix (K.written sink.old) (K.written sink.new) (paced_answer policy.now (pace_of task.now.pace) file).text)) }
+    ensures shelf_cause { IsErrOf result Stop.Source → Rose (S.faults shelf.old)
+        (S.faults shelf.new) }
+    ensures sink_cause { IsErrOf result Stop.Sink → Rose (K.faults sink.old) (K.faults sink.new) }
+    ensures sink_later { K.faults sink.old ≤ K.faults sink.new }
+{
+    match place {
+        None => direct(alloc, policy, task, shelf, sink),
+        Some(placement) => {
+            let mut watch: Watching<OrderTap> = Watching::new(
+                alloc,
+                Named::none(),
+                Vec::new(alloc),
+            );
+            replay(
+                alloc, policy, placement, task, shelf, sink, fabric, &mut watch,
+            )
+        }
+    }
+}
+
+/// Runs a link over a capture, and writes the departures as a capture. The packets go through the
+/// fabric if the policy's tree is placed, and otherwise through the policy's own tree.
+pub fn write_departures<S: Shelf, K: Sink, F: Fabric>(
+    alloc: Global,
+    policy: &Policy,
+    place: Option<Placement>,
+    capture: &str,
+    rate: LinkRate,
+    shelf: &mut S,
+    sink: &mut K,
+    fabric: &mut F,
+) -> Result<ForwardEnding, Stop>
+    requires lent { IsTrue (S.lends shelf.old capture.now) }
+    requires rate { IsRate rate }
+    requires placed { IfSome place (IsPlaced policy.now.policy) }
+    requires pushes { F.pushed fabric.old < 2 ^ 61 }
+    requires pops { F.popped fabric.old < 2 ^ 61 }
+
+    ensures ending { IfOk result (λ e. IfSome (S.content shelf.old capture.now) (λ file.
+        e ≡ (forward_answer policy.now rate file).ending)) }
+    ensures text { OnOk result (IfSome (S.content shelf.old capture.now) (λ file.
+        Appended (K.written sink.old) (K.written sink.new) (forward_answer policy.now rate file).text)) }
+    ensures part { OnErr result (IfSome (S.content shelf.old capture.now) (λ file.
+        AppendedPrefix (K.written sink.old) (K.written sink.new) (forward_answer policy.now rate file).text)) }
+    ensures shelf_cause { IsErrOf result Stop.Source → Rose (S.faults shelf.old)
+        (S.faults shelf.new) }
+    ensures sink_cause { IsErrOf result Stop.Sink → Rose (K.faults sink.old) (K.faults sink.new) }
+    ensures sink_later { K.faults sink.old ≤ K.faults sink.new }
+{
+    match place {
+        None => forward_own(alloc, policy, capture, rate, shelf, sink),
+        Some(placement) => forward(alloc, policy, placement, capture, rate, shelf, sink, fabric),
+    }
+}

@@ -1,0 +1,110 @@
+//! Runs whose outcomes are written in the form that a view names.
+ghost use Rattle.std.specs.Prelude.{◌≡◌, ◌<◌, ◌≤◌, ◌^◌, IfOk, IfSome, IsTrue, IsErrOf};
+ghost use Rattle.outside_core.specs.Faults.{Rose};
+ghost use Rattle.sched_defs.specs.SendTime.{IsRate};
+ghost use Rattle.sched_run.specs.Steps.{pace_of, IsBounded};
+ghost use Rattle.replay_app.specs.Answer.{IsTold};
+ghost use Rattle.replay_app.specs.Output.{direct_run};
+ghost use Rattle.replay_app.specs.Policies.{judged_of};
+ghost use Rattle.replay_app.specs.Statuses.{IsOneOf, pace_statuses, forward_statuses, status_code};
+ghost use Rattle.study.specs.Placed.{IsPlaced};
+ghost use Rattle.study.specs.Studied.{IsViewed, departures};
+
+use crate::parts::View;
+use crate::runs::{write_departures, write_report};
+use fabric_core::Fabric;
+use outside_core::{Shelf, Sink, Stop};
+use policy_core::Policy;
+use replay_app::{Judged, Status};
+use sched_capture::{Placement, Task};
+use sched_defs::LinkRate;
+use std::alloc::Global;
+
+/// Runs a task, and writes its report.
+fn view_report<S: Shelf, K: Sink, F: Fabric>(
+    alloc: Global,
+    policy: &Policy,
+    place: Option<Placement>,
+    task: &Task<'_, '_>,
+    shelf: &mut S,
+    sink: &mut K,
+    fabric: &mut F,
+) -> Result<Status, Stop>
+    requires lent { IsTrue (S.lends shelf.old task.now.capture.now) }
+    requires bounded { IsBounded task.now.pace }
+    requires placed { IfSome place (IsPlaced policy.now.policy) }
+    requires pushes { F.pushed fabric.old < 2 ^ 61 }
+    requires pops { F.popped fabric.old < 2 ^ 61 }
+
+    ensures answer { IfSome (S.content shelf.old task.now.capture.now) (λ file.
+        IsTold (λ a. a ≡ direct_run policy.now (pace_of task.now.pace) file) result
+        (K.written sink.old) (K.written sink.new)) }
+    ensures statuses { IfOk result (λ s. IsOneOf (pace_statuses task.now.pace) (status_code s)) }
+    ensures shelf_cause { IsErrOf result Stop.Source → Rose (S.faults shelf.old)
+        (S.faults shelf.new) }
+    ensures sink_cause { IsErrOf result Stop.Sink → Rose (K.faults sink.old) (K.faults sink.new) }
+    ensures sink_later { K.faults sink.old ≤ K.faults sink.new }
+{
+    let ending = write_report(alloc, policy, place, task, shelf, sink, fabric)?;
+    Ok(Status::of_run(ending))
+}
+
+/// Runs a task, and writes its outcomes in the form of the view.
+pub fn write_view<S: Shelf, K: Sink, F: Fabric>(
+    alloc: Global,
+    view: View,
+    judged: &Judged,
+    place: Option<Placement>,
+    task: &Task<'_, '_>,
+    shelf: &mut S,
+    sink: &mut K,
+    fabric: &mut F,
+) -> Result<Status, Stop>
+    requires lent { IsTrue (S.lends shelf.old task.now.capture.now) }
+    requires bounded { IsBounded task.now.pace }
+    requires placed { IfSome place (IsPlaced judged.now.policy.policy) }
+    requires pushes { F.pushed fabric.old < 2 ^ 61 }
+    requires pops { F.popped fabric.old < 2 ^ 61 }
+
+    ensures answer { IfSome (S.content shelf.old task.now.capture.now) (λ file.
+        IsTold (IsViewed view (judged_of judged.now) (pace_of task.now.pace) file) result
+        (K.written sink.old) (K.written sink.new)) }
+    ensures statuses { IfOk result (λ s. IsOneOf (pace_statuses task.now.pace) (status_code s)) }
+    ensures shelf_cause { IsErrOf result Stop.Source → Rose (S.faults shelf.old)
+        (S.faults shelf.new) }
+    ensures sink_cause { IsErrOf result Stop.Sink → Rose (K.faults sink.old) (K.faults sink.new) }
+    ensures sink_later { K.faults sink.old ≤ K.faults sink.new }
+{
+    match view {
+        View::Report => view_report(alloc, &judged.policy, place, task, shelf, sink, fabric),
+    }
+}
+
+/// Runs a link over a capture, and writes the departures as a capture.
+pub fn view_departures<S: Shelf, K: Sink, F: Fabric>(
+    alloc: Global,
+    policy: &Policy,
+    place: Option<Placement>,
+    capture: &str,
+    rate: LinkRate,
+    shelf: &mut S,
+    sink: &mut K,
+    fabric: &mut F,
+) -> Result<Status, Stop>
+    requires lent { IsTrue (S.lends shelf.old capture.now) }
+    requires rate { IsRate rate }
+    requires placed { IfSome place (IsPlaced policy.now.policy) }
+    requires pushes { F.pushed fabric.old < 2 ^ 61 }
+    requires pops { F.popped fabric.old < 2 ^ 61 }
+
+    ensures answer { IfSome (S.content shelf.old capture.now) (λ file.
+        IsTold (λ a. a ≡ departures policy.now rate file) result (K.written sink.old) (K.written sink.new)) }
+    ensures statuses { IfOk result (λ s. IsOneOf forward_statuses (status_code s)) }
+    ensures shelf_cause { IsErrOf result Stop.Source → Rose (S.faults shelf.old)
+        (S.faults shelf.new) }
+    ensures sink_cause { IsErrOf result Stop.Sink → Rose (K.faults sink.old) (K.faults sink.new) }
+    ensures sink_later { K.faults sink.old ≤ K.faults sink.new }
+{
+    let ending = write_departures(alloc, policy, place, capture, rate, shelf, sink, fabric)?;
+    Ok(Status::of_forward(ending))
+}
