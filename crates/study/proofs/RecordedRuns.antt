@@ -1,5 +1,5 @@
 -- A run with another recorder than a report.
-use Rattle.std.proofs.Common.{◌≡◌, ℕ, Option, None, Some, Result, Ok, Err, List, [], ◌++◌, inl, inr, refl, sym, ap, ◌∙◌, subst}
+use Rattle.std.proofs.Common.{◌≡◌, ◌+◌, ℕ, Option, None, Some, Result, Ok, Err, List, [], ◌++◌, inl, inr, refl, sym, ap, ◌∙◌, subst}
 use Rattle.std.specs.Prelude.{IfSome, IfOk, OnOk, OnErr}
 use Rattle.outside_core.specs.Written.{Appended, AppendedPrefix}
 use Rattle.outside_core.specs.declared.stop.Stop.{Stop}
@@ -11,7 +11,7 @@ use Rattle.policy_defs.specs.Policy.{Policy}
 use Rattle.policy_defs.specs.Accepted.{IsAccepted}
 use Rattle.policy_rules.specs.Resolved.{Resolved}
 use Rattle.sched_defs.specs.SourceState.{start}
-use Rattle.sched_defs.specs.Events.{Event, Outcome, after, outcomes}
+use Rattle.sched_defs.specs.Events.{Event, Outcome, after, outcomes, CanMake}
 use Rattle.sched_defs.specs.Pace.{Pace}
 use Rattle.sched_defs.specs.Packets.{Left, Captured, AreThere}
 use Rattle.sched_defs.specs.declared.ending.Ending.{Ending}
@@ -28,6 +28,7 @@ use Rattle.sched_run.specs.Turns.{AreFirst, StopsAmid}
 use Rattle.sched_run.specs.Courses.{course_of, IsCourse, Courses}
 use Rattle.sched_run.specs.Steps.{pace_of}
 use Rattle.sched_run.proofs.StartLaws.{start_can_begin}
+use Rattle.sched_run.proofs.MadeEvents.{can_make}
 use Rattle.sched_capture.specs.Answers.{RunAnswer, IsRefusal, IsRefusalPart, answer_of, answer_over, paced_answer}
 use Rattle.study.specs.Recorded.{AreRecorded, AreCutShort, IsPartOf, HasRecorded, HasRecordedPart}
 use Rattle.study.specs.declared.recorded.Recorded.{Recorded}
@@ -56,6 +57,16 @@ module _ {C U W : Type 0} (S : Ghosts C U) (R : recorder.Ghosts W) (laws : (capt
             subst (λ (es : List Event). R.records known.0 old.recorder old.written policy 1 (outcomes policy es (start policy)) new.recorder new.written) are
                 (subst (λ (n : ℕ). R.records known.0 old.recorder old.written policy n (outcomes policy courses.events (start policy)) new.recorder new.written) one (played.recorded known.0 known.1)),
           )
+
+  pub can_whole : (left : Option Left) (e : Ending) (new : Stage C U W) → Courses S (heard R H) policy (course_of policy pace) e left old new → IfSome left (λ l. CanMake policy (events_over l) (start policy))
+  can_whole left e new courses = by_left left courses.told
+    where
+      by_left : (a : Option Left) → IfSome a (λ l. FromEach S policy old (λ s. IsCourse courses.events e (course_of policy pace l s (event_of old.tally)))) → IfSome a (λ l. CanMake policy (events_over l) (start policy))
+      by_left None told = tt
+      by_left (Some l) told =
+          let below = (start_can_begin policy old.given).held in
+          let are : courses.events ≡ events_over l = (told (start policy) (sound_start policy accepted) stood below).are ∙ ap (λ (n : ℕ). (course_of policy pace l (start policy) n).events) one in
+          subst (λ (es : List Event). CanMake policy es (start policy)) are (can_make policy courses.events (old.given + 1) (start policy) courses.made.next.numbered courses.made.next.sendable below)
 
   pub recorded_ending : (left : Option Left) (e : Ending) (new : Stage C U W) → Courses S (heard R H) policy (course_of policy pace) e left old new
       → IfSome left (λ l. e ≡ (answer_of policy (pace_of pace) l.packets l.fault).ending)
@@ -91,14 +102,15 @@ module _ {C U W : Type 0} (S : Ghosts C U) (R : recorder.Ghosts W) (laws : (capt
 module _ {W : Type 0} (R : recorder.Ghosts W) (policy : Resolved) (pace : code.Pace) (w : W) where
   pub whole_over_file : (told : Option (List ℕ)) (left : Option Left) (e : Ending) (v : W) (a b : Option (List ℕ)) → IfSome told (λ file. Begins policy (in_file file) left)
       → IfSome left (λ l. e ≡ (answer_of policy.policy (pace_of pace) l.packets l.fault).ending)
+      → IfSome left (λ l. CanMake policy.policy (course_of policy.policy pace l (start policy.policy) 1).events (start policy.policy))
       → IfSome left (λ l. AreRecorded R.records policy.policy (course_of policy.policy pace l (start policy.policy) 1).events w a v b)
       → R.live v → IfSome told (λ file. HasRecorded R policy.policy (paced_answer policy (pace_of pace) file) w a (Whole e v) b)
-  whole_over_file None left e v a b begins ends recorded live = tt
-  whole_over_file (Some file) left e v a b begins ends recorded live = over (in_file file) begins
+  whole_over_file None left e v a b begins ends can recorded live = tt
+  whole_over_file (Some file) left e v a b begins ends can recorded live = over (in_file file) begins
     where
       over : (contents : FileContents) → Begins policy contents left → HasRecorded R policy.policy (answer_over policy (pace_of pace) contents) w a (Whole e v) b
       over (no_capture fault) begun = absurd begun
-      over (holds contents) begun = record { ends = rw begun at ends; events = _; are = refl; recorded = rw begun at recorded; live = live }
+      over (holds contents) begun = record { ends = rw begun at ends; events = _; are = refl; can = rw begun at can; recorded = rw begun at recorded; live = live }
 
   pub part_over_file : (told : Option (List ℕ)) (left : Option Left) (a b : Option (List ℕ)) → IfSome told (λ file. Begins policy (in_file file) left)
       → IfSome left (λ l. AreCutShort R.cuts policy.policy (course_of policy.policy pace l (start policy.policy) 1).events w a b)

@@ -3,7 +3,7 @@ use Rattle.std.specs.Prelude.{◌≡◌, ◌⊎◌, ℕ, Bool, Option, None, Som
 use Rattle.outside_core.specs.Written.{Appended, AppendedPrefix}
 use Rattle.policy_defs.specs.Policy.{Policy}
 use Rattle.sched_defs.specs.SourceState.{start}
-use Rattle.sched_defs.specs.Events.{Event, outcomes}
+use Rattle.sched_defs.specs.Events.{Event, outcomes, CanMake}
 use Rattle.sched_defs.specs.Packets.{Captured}
 use Rattle.sched_defs.specs.declared.ending.Ending.{Ending}
 use Rattle.sched_core.specs.declared.scheduler.Scheduler as scheduler
@@ -47,6 +47,7 @@ pub record IsWholeRun {W : Type 0} (R : recorder.Ghosts W) (policy : Policy) (an
   pub ends : ending ≡ answer.ending
   pub events : List Event
   pub are : answer.events ≡ Some events
+  pub can : CanMake policy events (start policy)
   pub recorded : AreRecorded R.records policy events w a v b
   pub live : R.live v
 

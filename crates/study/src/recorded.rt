@@ -8,6 +8,7 @@ ghost use Rattle.target_defs.specs.Target.{IsInRange};
 ghost use Rattle.embed_defs.specs.Images.{image_map};
 ghost use Rattle.embed_defs.specs.Embedding.{IsEmbedding};
 ghost use Rattle.sched_defs.specs.SourceState.{start};
+ghost use Rattle.sched_defs.specs.Events.{CanMake};
 ghost use Rattle.sched_packets.specs.CapturePackets.{left_of};
 ghost use Rattle.sched_run.specs.Courses.{course_of};
 ghost use Rattle.sched_run.specs.Steps.{pace_of, IsBounded, CanEndSo};
@@ -58,6 +59,10 @@ fn record_packets<C: Scheduler + Drop, S: Shelf, K: Sink, W: DepartureRecorder>(
         AreRecorded W.records policy.now.policy
         (course_of policy.now.policy pace.entry l (start policy.now.policy) 1).events
         run.old.recorder (K.written sink.old) run.new.recorder (K.written sink.new))) }
+    ensures can { OnOk result (IfSome (left_of packets.old (S.left shelf.old)) (λ l.
+        CanMake policy.now.policy
+        (course_of policy.now.policy pace.entry l (start policy.now.policy) 1).events
+        (start policy.now.policy))) }
     ensures part { OnErr result (IfSome (left_of packets.old (S.left shelf.old)) (λ l.
         AreCutShort W.cuts policy.now.policy
         (course_of policy.now.policy pace.entry l (start policy.now.policy) 1).events

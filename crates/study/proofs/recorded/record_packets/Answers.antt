@@ -2,7 +2,7 @@ use Rattle.std.proofs.Common.{arith}
 use Rattle.std.proofs.lemmas.Result.{err_from_is_err_and}
 use Rattle.sched_packets.specs.CapturePackets.{left_of, captures_of, there}
 use Rattle.sched_capture.proofs.FromStart.{stand_at_start}
-use Rattle.study.proofs.RecordedRuns.{recorded_whole, recorded_ending, cut_amid}
+use Rattle.study.proofs.RecordedRuns.{recorded_whole, can_whole, recorded_ending, cut_amid}
 use Rattle.study.proofs.recorded.record_packets.Goals as goal
 
 pub play_events-requires-clause-stands : goal.play_events-requires-clause-stands
@@ -34,3 +34,11 @@ returns-clause-recorded g c =
     let file = g.S.Shelf.left c.args.shelf.now in
     recorded_whole g.C.Scheduler g.W.Recorder g.met.W.Recorder.joined (captures_of packets file) c.args.policy.now.policy (rw r.policy_is at r.set.accepted) c.args.pace _ (omega (arith, r.fresh.none_came, r.fresh.none_asked)) r.stands
     (left_of packets file) (there packets file) _ _ (rw r.policy_is at (rw c.in-Some.is at c.in_ok-played.ensures.ok))
+
+pub returns-clause-can : goal.returns-clause-can
+returns-clause-can g c =
+    let r = c.requires.start in
+    let packets = c.args.packets.now in
+    let file = g.S.Shelf.left c.args.shelf.now in
+    can_whole g.C.Scheduler g.W.Recorder g.met.W.Recorder.joined (captures_of packets file) c.args.policy.now.policy (rw r.policy_is at r.set.accepted) c.args.pace _ (omega (arith, r.fresh.none_came, r.fresh.none_asked)) r.stands
+    (left_of packets file) _ _ (rw r.policy_is at (rw c.in-Some.is at c.in_ok-played.ensures.ok))
