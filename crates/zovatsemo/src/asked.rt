@@ -39,7 +39,7 @@ fn link_rate(bytes: Option<u64>, overhead: u32) -> Option<LinkRate>
 /// paces.
 fn linked<'a>(files: &[&'a str], drive: Drive<'a>, view: View) -> Option<Study<'a>>
     requires rate { HasLinkRate drive }
-    ensures value { result ≡ linked files.now drive view }
+    ensures value { result ≡ linked files.now drive.entry view }
     ensures rate { IfSome result (λ study. HasLinkRate study.drive) }
 {
     match files {

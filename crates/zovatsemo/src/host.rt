@@ -84,16 +84,18 @@ fn tell_end(
     status: u8,
     sink: &Catching<Output<'_>>,
 ) -> Result<(), AllocError> {
-    match (status, fault_told(rt, options, sink)) {
-        (0, _) => {
-            let _ = warn(rt, options);
-        }
-        (NO_OUTPUT, _) => sink.below().tell_failure(options.command)?,
-        (_, Some(fault)) => tell_of(rt, options, fault)?,
-        (8, None) => tell_unread(rt, options)?,
-        _ => tell_ending(rt, options, status)?,
+    if status == 0 {
+        let _ = warn(rt, options);
+        return Ok(());
     }
-    Ok(())
+    if status == NO_OUTPUT {
+        return sink.below().tell_failure(options.command);
+    }
+    match fault_told(rt, options, sink) {
+        Some(fault) => tell_of(rt, options, fault),
+        None if status == 8 => tell_unread(rt, options),
+        None => tell_ending(rt, options, status),
+    }
 }
 
 /// Returns whether lines about the progress of a run don't mix with its output: that goes elsewhere

@@ -94,6 +94,8 @@ pub struct Watched<S> {
 }
 
 impl<S: Shelf + Drop> Watched<S> {
+    ghost use Rattle.std.specs.Prelude.{◌≡◌};
+
     /// Wraps a shelf. Lines are shown on standard error if it is a terminal and `shows`, from two
     /// seconds on.
     pub fn new(rt: HostRuntime, shelf: S, shows: bool) -> Watched<S>
