@@ -26,11 +26,10 @@ use Rattle.study.specs.declared.parts.View as study
 use Rattle.study.specs.declared.parts.View.TheVariants as studied
 
 -- ---- studies
+-- a study has no sums, and no option asks for them
 abbrev pub study_view : View → study.View
-study_view view.Report = studied.Report
 study_view view.Json = studied.Json
-study_view view.Summary = studied.Summary
-study_view view.JsonSummary = studied.JsonSummary
+study_view other = studied.Report
 
 -- a link of this many bytes per second, and bytes for each packet besides its length, if both are in
 -- range
@@ -130,8 +129,8 @@ a_link_of_no_rate = refl
 direct_as_json : (p c e : Bor (List ℕ)) → study_by command.Direct (p ∷ c ∷ e ∷ []) None studied.Json ≡ Some (scripted p None c e studied.Json)
 direct_as_json p c e = refl
 
-replay_in_sums : (p t c e : Bor (List ℕ)) → study_by command.Replay (p ∷ t ∷ c ∷ e ∷ []) None studied.Summary ≡ Some (scripted p (Some t) c e studied.Summary)
-replay_in_sums p t c e = refl
+replay_as_json : (p t c e : Bor (List ℕ)) → study_by command.Replay (p ∷ t ∷ c ∷ e ∷ []) None studied.Json ≡ Some (scripted p (Some t) c e studied.Json)
+replay_as_json p t c e = refl
 
 link_without_a_target : (p c : Bor (List ℕ)) (rate : LinkRate) → study_by command.Link (p ∷ c ∷ []) (Some rate) studied.Report
     ≡ Some (record { policy = p; target = None; capture = c; drive = Link rate; view = studied.Report })
