@@ -1,2 +1,3 @@
 pub mod RecordedRuns
 pub mod RunLaws
+pub mod JsonLaws

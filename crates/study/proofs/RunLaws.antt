@@ -1,20 +1,23 @@
 -- Runs over a capture that may be known to the contract.
 use Rattle.std.proofs.Common.{◌≡◌, ap, ◌∙◌, ℕ, Option, None, Some, List}
-use Rattle.std.specs.Prelude.{Ok, Err, IfSome}
+use Rattle.std.specs.Prelude.{Result, Ok, Err, IfSome, IfOk}
 use Rattle.outside_core.specs.Written.{Appended, AppendedPrefix}
 use Rattle.outside_core.specs.declared.stop.Stop.{Stop}
 use Rattle.policy_rules.specs.Resolved.{Resolved}
 use Rattle.sched_defs.specs.Pace.{Pace}
 use Rattle.sched_defs.specs.declared.ending.Ending.{Ending}
 use Rattle.sched_defs.specs.declared.rate.LinkRate.{LinkRate}
+use Rattle.sched_run.specs.Steps.{CanEndSo}
+use Rattle.sched_run.specs.declared.pace.Pace as code
 use Rattle.sched_capture.specs.Answers.{paced_answer}
 use Rattle.sched_capture.specs.Forwards.{forward_answer}
 use Rattle.sched_capture.specs.declared.departures.ForwardEnding.{ForwardEnding}
 use Rattle.replay_app.specs.Answer.{IsTold}
 use Rattle.replay_app.specs.Output.{direct_run}
 use Rattle.replay_app.specs.Scripts.{ending_status}
-use Rattle.replay_app.specs.Statuses.{run_status, status_code, forward_status}
-use Rattle.replay_app.proofs.AnswerLaws.{same_status}
+use Rattle.replay_app.specs.Statuses.{IsOneOf, pace_statuses, run_status, status_code, forward_status}
+use Rattle.replay_app.specs.declared.status.Status.{Status}
+use Rattle.replay_app.proofs.AnswerLaws.{same_status, pace_ends}
 use Rattle.replay_app.proofs.FollowLaws.{exactly_told}
 use Rattle.study.specs.Studied.{departures}
 
@@ -41,3 +44,8 @@ module _ (policy : Resolved) (old new : Option (List ℕ)) where
       → IfSome told (λ file. IsTold (λ a. a ≡ departures policy rate file) (Err stop) old new)
   departures_cut rate None stop part = tt
   departures_cut rate (Some file) stop part = exactly_told (departures policy rate file) (Err stop) old new tt tt part
+
+-- ---- statuses
+pub ending_statuses : (pace : code.Pace) (e : Ending) (r : Result Status Stop) → CanEndSo pace e → IfOk r (λ s. s ≡ run_status e) → IfOk r (λ s. IsOneOf (pace_statuses pace) (status_code s))
+ending_statuses pace e (Ok s) can is = rw is (pace_ends pace e can)
+ending_statuses pace e (Err stop) can is = tt

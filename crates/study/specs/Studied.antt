@@ -14,11 +14,12 @@ use Rattle.replay_app.specs.Scripts.{AlongScript, script_pace}
 use Rattle.replay_app.specs.Statuses.{status_code, forward_status}
 use Rattle.replay_app.specs.Targets.{ForTarget, WithRoom}
 use Rattle.study.specs.Files.{target_of}
+use Rattle.study.specs.JsonRuns.{json_run}
 use Rattle.study.specs.declared.parts.Drive.{Drive}
 use Rattle.study.specs.declared.parts.Drive.TheVariants.{Script, Link, Forward}
 use Rattle.study.specs.declared.parts.Study.{Study}
 use Rattle.study.specs.declared.parts.View.{View}
-use Rattle.study.specs.declared.parts.View.TheVariants.{Report}
+use Rattle.study.specs.declared.parts.View.TheVariants.{Report, Json}
 
 -- The target needs room for a policy's tree. A run through a target gives the output of a run
 -- through the policy's own tree.
@@ -37,6 +38,7 @@ InTarget (Some t) tree contents after = ForTargetText (contents t) tree after
 -- the output of a run over a capture, by its view
 abbrev pub IsViewed : View → Judged → pace.Pace → List ℕ → Answer → Type 0
 IsViewed Report judged paced capture = λ a. a ≡ direct_run judged.policy paced capture
+IsViewed Json judged paced capture = λ a. a ≡ json_run judged.policy paced capture
 
 -- the departures of a link as a capture, and the status of the run
 abbrev pub departures : Resolved → LinkRate → List ℕ → Answer

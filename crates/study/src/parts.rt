@@ -6,6 +6,8 @@ use sched_defs::LinkRate;
 pub enum View {
     /// The report that `replay_app::run` writes.
     Report,
+    /// JSON lines, as `event_json` writes them.
+    Json,
 }
 
 /// What paces the run.

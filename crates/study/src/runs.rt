@@ -1,18 +1,22 @@
 //! Runs through a policy's own tree of queues, or through a fabric that holds it.
-ghost use Rattle.std.specs.Prelude.{◌≡◌, ◌<◌, ◌≤◌, ◌^◌, IfOk, IfSome, IsTrue, OnOk, OnErr, IsErrOf};
+ghost use Rattle.std.specs.Prelude.{◌≡◌, ◌<◌, ◌≤◌, ◌^◌, false, IfOk, IfSome, IsTrue, OnOk, OnErr, IsErrOf};
 ghost use Rattle.outside_core.specs.Faults.{Rose};
+ghost use Rattle.outside_core.specs.Kept.{KeepsSink};
 ghost use Rattle.outside_core.specs.Written.{Appended, AppendedPrefix};
 ghost use Rattle.sched_defs.specs.SendTime.{IsRate};
 ghost use Rattle.sched_run.specs.Steps.{pace_of, IsBounded, CanEndSo};
 ghost use Rattle.sched_capture.specs.Answers.{paced_answer};
 ghost use Rattle.sched_capture.specs.Forwards.{forward_answer};
+ghost use Rattle.study.specs.Recorded.{HasRecorded, HasRecordedPart, ending_in};
 ghost use Rattle.study.specs.Placed.{IsPlaced};
 
+use crate::recorded::{Recorded, record_own, record_through};
 use fabric_core::Fabric;
 use outside_core::{Shelf, Sink, Stop};
 use policy_core::Policy;
 use sched_capture::{Ending, ForwardEnding, Placement, Task, direct, forward, forward_own, replay};
 use sched_defs::LinkRate;
+use sched_run::DepartureRecorder;
 use std::alloc::Global;
 use tap_core::{Named, OrderTap, Watching};
 
@@ -92,5 +96,46 @@ pub fn write_departures<S: Shelf, K: Sink, F: Fabric>(
     match place {
         None => forward_own(alloc, policy, capture, rate, shelf, sink),
         Some(placement) => forward(alloc, policy, placement, capture, rate, shelf, sink, fabric),
+    }
+}
+
+/// Runs a task, and records its outcomes with this recorder, which must never end a run. The
+/// packets go through the fabric if the policy's tree is placed, and otherwise through the policy's
+/// own tree.
+pub fn record<S: Shelf, K: Sink, F: Fabric, W: DepartureRecorder>(
+    alloc: Global,
+    policy: &Policy,
+    place: Option<Placement>,
+    task: &Task<'_, '_>,
+    recorder: W,
+    shelf: &mut S,
+    sink: &mut K,
+    fabric: &mut F,
+) -> Result<Recorded<W>, Stop>
+    requires live { W.live recorder }
+    requires endless { (w : W) → W.over w ≡ false }
+    requires lent { IsTrue (S.lends shelf.old task.now.capture.now) }
+    requires bounded { IsBounded task.now.pace }
+    requires placed { IfSome place (IsPlaced policy.now.policy) }
+    requires pushes { F.pushed fabric.old < 2 ^ 61 }
+    requires pops { F.popped fabric.old < 2 ^ 61 }
+
+    ensures recorded { IfOk result (λ r. IfSome (S.content shelf.old task.now.capture.now) (λ file.
+        HasRecorded W.Recorder policy.now.policy (paced_answer policy.now (pace_of task.now.pace) file)
+        recorder (K.written sink.old) r (K.written sink.new))) }
+    ensures part { OnErr result (IfSome (S.content shelf.old task.now.capture.now) (λ file.
+        HasRecordedPart W.Recorder policy.now.policy (paced_answer policy.now (pace_of task.now.pace) file)
+        recorder (K.written sink.old) (K.written sink.new))) }
+    ensures ends { IfOk result (λ r. CanEndSo task.now.pace (ending_in r)) }
+    ensures shelf_cause { IsErrOf result Stop.Source → Rose (S.faults shelf.old)
+        (S.faults shelf.new) }
+    ensures sink_cause { IsErrOf result Stop.Sink → Rose (K.faults sink.old) (K.faults sink.new) }
+    ensures kept { KeepsSink K.written K.faults sink.old sink.new }
+{
+    match place {
+        None => record_own(alloc, policy, task, recorder, shelf, sink),
+        Some(placement) => record_through(
+            alloc, policy, placement, task, recorder, shelf, sink, fabric,
+        ),
     }
 }

@@ -1,23 +1,32 @@
 //! Runs whose outcomes are written in the form that a view names.
-ghost use Rattle.std.specs.Prelude.{◌≡◌, ◌<◌, ◌≤◌, ◌^◌, IfOk, IfSome, IsTrue, IsErrOf};
+ghost use Rattle.std.specs.Prelude.{◌≡◌, ◌<◌, ◌≤◌, ◌^◌, IfOk, IfSome, IsTrue, OnOk, OnErr, IsErrOf};
 ghost use Rattle.outside_core.specs.Faults.{Rose};
+ghost use Rattle.outside_core.specs.Kept.{KeepsSink};
+ghost use Rattle.outside_core.specs.Written.{Appended};
+ghost use Rattle.report_defs.specs.Text.{IsCut};
+ghost use Rattle.report_core.specs.Gathered.{text_of};
 ghost use Rattle.sched_defs.specs.SendTime.{IsRate};
 ghost use Rattle.sched_run.specs.Steps.{pace_of, IsBounded};
+ghost use Rattle.event_json.specs.Json.{json_end};
 ghost use Rattle.replay_app.specs.Answer.{IsTold};
 ghost use Rattle.replay_app.specs.Output.{direct_run};
 ghost use Rattle.replay_app.specs.Policies.{judged_of};
-ghost use Rattle.replay_app.specs.Statuses.{IsOneOf, pace_statuses, forward_statuses, status_code};
+ghost use Rattle.replay_app.specs.Statuses.{IsOneOf, pace_statuses, forward_statuses, run_status, status_code};
+ghost use Rattle.study.specs.JsonRuns.{rate_in, json_run};
 ghost use Rattle.study.specs.Placed.{IsPlaced};
 ghost use Rattle.study.specs.Studied.{IsViewed, departures};
 
 use crate::parts::View;
-use crate::runs::{write_departures, write_report};
+use crate::recorded::Recorded;
+use crate::runs::{record, write_departures, write_report};
+use event_json::JsonReport;
 use fabric_core::Fabric;
 use outside_core::{Shelf, Sink, Stop};
 use policy_core::Policy;
 use replay_app::{Judged, Status};
-use sched_capture::{Placement, Task};
+use sched_capture::{Ending, Placement, Task};
 use sched_defs::LinkRate;
+use sched_run::Pace;
 use std::alloc::Global;
 
 /// Runs a task, and writes its report.
@@ -49,6 +58,69 @@ fn view_report<S: Shelf, K: Sink, F: Fabric>(
     Ok(Status::of_run(ending))
 }
 
+/// Returns the link's rate, if a link paces the run.
+fn rate_of(pace: Pace<'_>) -> Option<LinkRate>
+    requires bounded { IsBounded pace }
+    ensures rate { result ≡ rate_in (pace_of pace.entry) }
+    ensures range { IfSome result IsRate }
+{
+    match pace {
+        Pace::Script(_) => None,
+        Pace::Link(rate) => Some(rate),
+    }
+}
+
+/// Writes the last line of a run, and all lines that the recorder still buffers.
+fn close_json<K: Sink>(recorder: JsonReport, sink: &mut K, ending: Ending) -> Result<Status, Stop>
+    requires live { IsTrue recorder.report.live }
+
+    ensures status { IfOk result (λ s. s ≡ run_status ending) }
+    ensures whole { OnOk result (Appended (text_of (K.written sink.old) recorder.report)
+        (K.written sink.new) (json_end recorder.counts ending)) }
+    ensures cut { OnErr result (IsCut (text_of (K.written sink.old) recorder.report)
+        (json_end recorder.counts ending) (K.written sink.new)) }
+    ensures kept { KeepsSink K.written K.faults sink.old sink.new }
+    ensures sink_cause { IsErrOf result Stop.Sink → Rose (K.faults sink.old) (K.faults sink.new) }
+    ensures reads_nothing { IsErrOf result Stop.Source → ⊥ }
+{
+    let mut recorder = recorder;
+    recorder.finish(sink, ending)?;
+    Ok(Status::of_run(ending))
+}
+
+/// Runs a task, and writes its outcomes as JSON lines.
+fn view_json<S: Shelf, K: Sink, F: Fabric>(
+    alloc: Global,
+    policy: &Policy,
+    place: Option<Placement>,
+    task: &Task<'_, '_>,
+    shelf: &mut S,
+    sink: &mut K,
+    fabric: &mut F,
+) -> Result<Status, Stop>
+    requires lent { IsTrue (S.lends shelf.old task.now.capture.now) }
+    requires bounded { IsBounded task.now.pace }
+    requires placed { IfSome place (IsPlaced policy.now.policy) }
+    requires pushes { F.pushed fabric.old < 2 ^ 61 }
+    requires pops { F.popped fabric.old < 2 ^ 61 }
+
+    ensures answer { IfSome (S.content shelf.old task.now.capture.now) (λ file.
+        IsTold (λ a. a ≡ json_run policy.now (pace_of task.now.pace) file) result
+        (K.written sink.old) (K.written sink.new)) }
+    ensures statuses { IfOk result (λ s. IsOneOf (pace_statuses task.now.pace) (status_code s)) }
+    ensures shelf_cause { IsErrOf result Stop.Source → Rose (S.faults shelf.old)
+        (S.faults shelf.new) }
+    ensures sink_cause { IsErrOf result Stop.Sink → Rose (K.faults sink.old) (K.faults sink.new) }
+    ensures sink_later { K.faults sink.old ≤ K.faults sink.new }
+{
+    let recorder = JsonReport::new(alloc, rate_of(task.pace))?;
+    let recorded = record(alloc, policy, place, task, recorder, shelf, sink, fabric)?;
+    match recorded {
+        Recorded::Whole(ending, recorder) => close_json(recorder, sink, ending),
+        Recorded::Refused(ending) => Ok(Status::of_run(ending)),
+    }
+}
+
 /// Runs a task, and writes its outcomes in the form of the view.
 pub fn write_view<S: Shelf, K: Sink, F: Fabric>(
     alloc: Global,
@@ -77,6 +149,7 @@ pub fn write_view<S: Shelf, K: Sink, F: Fabric>(
 {
     match view {
         View::Report => view_report(alloc, &judged.policy, place, task, shelf, sink, fabric),
+        View::Json => view_json(alloc, &judged.policy, place, task, shelf, sink, fabric),
     }
 }
 
