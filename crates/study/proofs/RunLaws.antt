@@ -3,6 +3,7 @@ use Rattle.std.proofs.Common.{◌≡◌, ap, ◌∙◌, ℕ, Option, None, Some,
 use Rattle.std.specs.Prelude.{Result, Ok, Err, IfSome, IfOk}
 use Rattle.outside_core.specs.Written.{Appended, AppendedPrefix}
 use Rattle.outside_core.specs.declared.stop.Stop.{Stop}
+use Rattle.outside_core.proofs.WrittenLaws.{appended_nothing, prefix_of_nothing}
 use Rattle.policy_rules.specs.Resolved.{Resolved}
 use Rattle.sched_defs.specs.Pace.{Pace}
 use Rattle.sched_defs.specs.declared.ending.Ending.{Ending}
@@ -12,7 +13,7 @@ use Rattle.sched_run.specs.declared.pace.Pace as code
 use Rattle.sched_capture.specs.Answers.{paced_answer}
 use Rattle.sched_capture.specs.Forwards.{forward_answer}
 use Rattle.sched_capture.specs.declared.departures.ForwardEnding.{ForwardEnding}
-use Rattle.replay_app.specs.Answer.{IsTold}
+use Rattle.replay_app.specs.Answer.{Answer, IsTold}
 use Rattle.replay_app.specs.Output.{direct_run}
 use Rattle.replay_app.specs.Scripts.{ending_status}
 use Rattle.replay_app.specs.Statuses.{IsOneOf, pace_statuses, run_status, status_code, forward_status}
@@ -49,3 +50,7 @@ module _ (policy : Resolved) (old new : Option (List ℕ)) where
 pub ending_statuses : (pace : code.Pace) (e : Ending) (r : Result Status Stop) → CanEndSo pace e → IfOk r (λ s. s ≡ run_status e) → IfOk r (λ s. IsOneOf (pace_statuses pace) (status_code s))
 ending_statuses pace e (Ok s) can is = rw is (pace_ends pace e can)
 ending_statuses pace e (Err stop) can is = tt
+
+-- ---- a stop before anything is written
+pub nothing_told : (output : Answer → Type 0) (stop : Stop) (a : Option (List ℕ)) → IsTold output (Err stop) a a
+nothing_told output stop a = record { whole = tt; part = λ x is. prefix_of_nothing a a x.text (appended_nothing a) }

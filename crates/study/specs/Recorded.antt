@@ -75,3 +75,8 @@ HasRecordedPart R policy answer w a b = IsPartOf R policy answer.events answer.t
 abbrev pub ending_in : {W : Type 0} → Recorded W → Ending
 ending_in (Whole ending w) = ending
 ending_in (Refused ending) = ending
+
+-- P holds of the recorder that is returned, if one is
+abbrev pub IfRecorded : {W : Type 0} → Recorded W → (W → Type 0) → Type 0
+IfRecorded (Whole ending w) P = P w
+IfRecorded (Refused ending) P = Unit {0}

@@ -13,7 +13,7 @@ ghost use Rattle.sched_packets.specs.CapturePackets.{left_of};
 ghost use Rattle.sched_run.specs.Courses.{course_of};
 ghost use Rattle.sched_run.specs.Steps.{pace_of, IsBounded, CanEndSo};
 ghost use Rattle.sched_capture.specs.Answers.{answer_of, paced_answer};
-ghost use Rattle.study.specs.Recorded.{IsAtStart, AreUnread, AreRecorded, AreCutShort, HasRecorded, HasRecordedPart, ending_in};
+ghost use Rattle.study.specs.Recorded.{IsAtStart, AreUnread, AreRecorded, AreCutShort, HasRecorded, HasRecordedPart, IfRecorded, ending_in};
 
 use fabric_core::Fabric;
 use outside_core::{Shelf, Sink, Stop};
@@ -104,6 +104,7 @@ fn record_over<C: Scheduler + Drop, S: Shelf, K: Sink, W: DepartureRecorder>(
         HasRecordedPart W.Recorder policy.now.policy (paced_answer policy.now (pace_of task.now.pace) file)
         run.entry.recorder (K.written sink.old) (K.written sink.new))) }
     ensures ends { IfOk result (λ r. CanEndSo task.now.pace (ending_in r)) }
+    ensures live { IfOk result (λ r. IfRecorded r W.live) }
     ensures sink_cause { IsErrOf result Stop.Sink → Rose (K.faults sink.old) (K.faults sink.new) }
     ensures source_cause { IsErrOf result Stop.Source → Rose (S.faults shelf.old)
         (S.faults shelf.new) }
@@ -154,6 +155,7 @@ pub fn record_own<S: Shelf, K: Sink, W: DepartureRecorder>(
         HasRecordedPart W.Recorder policy.now.policy (paced_answer policy.now (pace_of task.now.pace) file)
         recorder (K.written sink.old) (K.written sink.new))) }
     ensures ends { IfOk result (λ r. CanEndSo task.now.pace (ending_in r)) }
+    ensures live { IfOk result (λ r. IfRecorded r W.live) }
     ensures sink_cause { IsErrOf result Stop.Sink → Rose (K.faults sink.old) (K.faults sink.new) }
     ensures source_cause { IsErrOf result Stop.Source → Rose (S.faults shelf.old)
         (S.faults shelf.new) }
@@ -193,6 +195,7 @@ pub fn record_through<S: Shelf, K: Sink, F: Fabric, W: DepartureRecorder>(
         HasRecordedPart W.Recorder policy.now.policy (paced_answer policy.now (pace_of task.now.pace) file)
         recorder (K.written sink.old) (K.written sink.new))) }
     ensures ends { IfOk result (λ r. CanEndSo task.now.pace (ending_in r)) }
+    ensures live { IfOk result (λ r. IfRecorded r W.live) }
     ensures sink_cause { IsErrOf result Stop.Sink → Rose (K.faults sink.old) (K.faults sink.new) }
     ensures source_cause { IsErrOf result Stop.Source → Rose (S.faults shelf.old)
         (S.faults shelf.new) }

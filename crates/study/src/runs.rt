@@ -7,7 +7,7 @@ ghost use Rattle.sched_defs.specs.SendTime.{IsRate};
 ghost use Rattle.sched_run.specs.Steps.{pace_of, IsBounded, CanEndSo};
 ghost use Rattle.sched_capture.specs.Answers.{paced_answer};
 ghost use Rattle.sched_capture.specs.Forwards.{forward_answer};
-ghost use Rattle.study.specs.Recorded.{HasRecorded, HasRecordedPart, ending_in};
+ghost use Rattle.study.specs.Recorded.{HasRecorded, HasRecordedPart, IfRecorded, ending_in};
 ghost use Rattle.study.specs.Placed.{IsPlaced};
 
 use crate::recorded::{Recorded, record_own, record_through};
@@ -127,6 +127,7 @@ pub fn record<S: Shelf, K: Sink, F: Fabric, W: DepartureRecorder>(
         HasRecordedPart W.Recorder policy.now.policy (paced_answer policy.now (pace_of task.now.pace) file)
         recorder (K.written sink.old) (K.written sink.new))) }
     ensures ends { IfOk result (λ r. CanEndSo task.now.pace (ending_in r)) }
+    ensures live { IfOk result (λ r. IfRecorded r W.live) }
     ensures shelf_cause { IsErrOf result Stop.Source → Rose (S.faults shelf.old)
         (S.faults shelf.new) }
     ensures sink_cause { IsErrOf result Stop.Sink → Rose (K.faults sink.old) (K.faults sink.new) }

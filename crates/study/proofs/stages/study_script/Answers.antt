@@ -2,6 +2,7 @@ use Rattle.std.proofs.Common.{◌∙◌}
 use Rattle.report_core.specs.declared.fault.FaultKind.TheVariants as kind
 use Rattle.replay_app.proofs.FollowLaws.{accepted_told, refused_told}
 use Rattle.replay_app.proofs.Inputs.{scripts_are_one}
+use Rattle.study.proofs.RunLaws.{nothing_told}
 use Rattle.study.proofs.stages.study_script.Goals as goal
 
 pub write_view-requires-clause-bounded : goal.write_view-requires-clause-bounded
@@ -18,3 +19,6 @@ returns-in-Refused-clause-answer g c = λ contents told.
     let r = c.in-Refused.refusal in
     let is = rw c.in-Refused.is at (rw (told.1.0) at c.in_ok-script.ensures.read) in
     refused_told kind.Script _ _ _ (scripts_are_one (contents c.args.name.now)) c.refuse.result _ _ r.code r.place is c.refuse.ensures.status c.refuse.ensures.text c.refuse.ensures.part
+
+pub returns-in_err-script-clause-answer : goal.returns-in_err-script-clause-answer
+returns-in_err-script-clause-answer g c = λ contents told. nothing_told _ _ _

@@ -2,6 +2,7 @@ use Rattle.std.proofs.Common.{refl}
 use Rattle.std.proofs.lemmas.Result.{err_from_is_err_and}
 use Rattle.outside_core.proofs.KeptLaws.{Begins-trans}
 use Rattle.sched_run.specs.Steps.{pace_of}
+use Rattle.event_json.specs.contracts.recorder.JsonReportRecorder.TheImpl.{ghosts}
 use Rattle.replay_app.proofs.AnswerLaws.{pace_ends}
 use Rattle.study.proofs.JsonLaws.{json_unread, json_refused, json_closed, json_stopped}
 use Rattle.study.proofs.RunLaws.{ending_statuses}
@@ -16,14 +17,14 @@ pub returns-in_err-recorded-clause-answer : goal.returns-in_err-recorded-clause-
 returns-in_err-recorded-clause-answer g c =
     let p = err_from_is_err_and c.from_residual-in_err-recorded.result c.from_residual-in_err-recorded.ensures.1 in
     let fresh = rw c.rate_of.ensures.rate at c.in_ok-recorder.ensures.nothing in
-    rw (p.1) (json_stopped c.args.policy.now (pace_of c.args.task.now.pace) _ fresh _ (λ captured a b os v r. r) (λ captured a b os r. r) _ _ _ _ c.in_err-recorded.ensures.part c.record.ensures.kept.begins)
+    rw (p.1) (json_stopped c.args.policy.now (pace_of c.args.task.now.pace) _ fresh ghosts (λ captured a b os v r. r) (λ captured a b os r. r) _ _ _ _ c.in_err-recorded.ensures.part c.record.ensures.kept.begins)
 
 pub returns-in-Whole-clause-answer : goal.returns-in-Whole-clause-answer
 returns-in-Whole-clause-answer g c =
     let fresh = rw c.rate_of.ensures.rate at c.in_ok-recorder.ensures.nothing in
     let run = rw c.in-Whole.is at c.in_ok-recorded.ensures.recorded in
     let begins = Begins-trans _ _ _ c.in_ok-recorded.ensures.kept.begins c.close_json.ensures.kept.begins in
-    json_closed c.args.policy.now (pace_of c.args.task.now.pace) _ fresh _ (λ captured a b os v r. r) (λ captured a b os r. r) _ _ _ c.close_json.result _ _ _ run begins
+    json_closed c.args.policy.now (pace_of c.args.task.now.pace) _ fresh ghosts (λ captured a b os v r. r) (λ captured a b os r. r) _ _ _ c.close_json.result _ _ _ run begins
     c.close_json.ensures.status c.close_json.ensures.whole c.close_json.ensures.cut
 
 pub returns-in-Refused-clause-answer : goal.returns-in-Refused-clause-answer
@@ -40,3 +41,6 @@ returns-in-Refused-clause-statuses g c =
 
 pub record-requires-clause-endless : goal.record-requires-clause-endless
 record-requires-clause-endless g c = λ w. refl
+
+pub close_json-requires : goal.close_json-requires
+close_json-requires g c = record { live = rw c.in-Whole.is at c.in_ok-recorded.ensures.live }
