@@ -1,4 +1,5 @@
 use Rattle.std.proofs.Common.{◌∙◌}
+use Rattle.std.proofs.lemmas.Result.{err_from_is_err_and}
 use Rattle.report_core.specs.declared.fault.FaultKind.TheVariants as kind
 use Rattle.replay_app.proofs.FollowLaws.{accepted_told, refused_told}
 use Rattle.replay_app.proofs.Inputs.{scripts_are_one}
@@ -21,4 +22,6 @@ returns-in-Refused-clause-answer g c = λ contents told.
     refused_told kind.Script _ _ _ (scripts_are_one (contents c.args.name.now)) c.refuse.result _ _ r.code r.place is c.refuse.ensures.status c.refuse.ensures.text c.refuse.ensures.part
 
 pub returns-in_err-script-clause-answer : goal.returns-in_err-script-clause-answer
-returns-in_err-script-clause-answer g c = λ contents told. nothing_told _ _ _
+returns-in_err-script-clause-answer g c = λ contents told.
+    let p = err_from_is_err_and c.from_residual.result c.from_residual.ensures.1 in
+    rw (p.1) (nothing_told _ _ _)
