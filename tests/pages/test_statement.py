@@ -1,5 +1,6 @@
 """What the contract of `run` rests on: the table in docs/DEFINITIONS.md is current, and the walk counts what it should."""
 import pathlib
+import re
 import shutil
 import subprocess
 import sys
@@ -109,7 +110,7 @@ class Page(unittest.TestCase):
         with tempfile.TemporaryDirectory() as folder:
             page = pathlib.Path(folder, "page.md")
             shutil.copy(TOP / "docs/DEFINITIONS.md", page)
-            page.write_text(page.read_text().replace("pifo_defs/specs/Queue.antt\n", "pifo_defs/specs/Other.antt\n"))
+            page.write_text(page.read_text().replace(" pifo_defs\n", " pifo_other\n"))
             self.assertEqual(1, statement("--check", "--page", page).returncode)
             self.assertEqual(0, statement("--write", "--page", page).returncode)
             self.assertEqual((TOP / "docs/DEFINITIONS.md").read_text(), page.read_text())
@@ -117,6 +118,12 @@ class Page(unittest.TestCase):
     def test_arguments(self):
         self.assertEqual(2, statement("replay_app/src/command.rt", "nothing").returncode)
         self.assertIn("`block_run` rests on ", statement("block_replay/src/command.rt", "block_run").stdout)
+
+    def test_each_file_is_printed(self):
+        rows = re.findall(r"^ +(\d+) (\w+)/[\w/]+\.(?:antt|rt)$", statement().stdout, re.MULTILINE)
+        sums = {crate: sum(int(count) for count, other in rows if other == crate) for _, crate in rows}
+        page = (TOP / "docs/DEFINITIONS.md").read_text().partition("The lines of each crate:")[2].partition("<!-- end -->")[0]
+        self.assertEqual({crate: int(count) for count, crate in re.findall(r"(\d+) (\w+)", page)}, sums)
 
 
 if __name__ == "__main__":
