@@ -40,7 +40,7 @@ pub fn tell_found(alloc: Global, found: Found, name: &str) -> Result<Vec<u8>, Al
         code: found.damage.code(),
         place: found.number,
     };
-    let text = tell_fault(alloc, fault, name, None)?;
+    let text = tell_fault(alloc, fault, name, None, b"")?;
     with_detail(alloc, &text, &damage_text(alloc, found)?)
 }
 

@@ -237,7 +237,12 @@ fn is_at_line(fault: Fault) -> bool {
 }
 
 /// Returns the place of an error in a text, and what was expected and found there, if it is known.
-fn detail_in(alloc: Global, fault: Fault, text: &[u8]) -> Result<Option<Detail>, AllocError> {
+fn detail_in(
+    alloc: Global,
+    fault: Fault,
+    text: &[u8],
+    policy: &[u8],
+) -> Result<Option<Detail>, AllocError> {
     if !is_at_line(fault) {
         return Ok(None);
     }
@@ -248,6 +253,7 @@ fn detail_in(alloc: Global, fault: Fault, text: &[u8]) -> Result<Option<Detail>,
             code: fault.code,
             line: fault.place,
             text,
+            policy,
             builtins: &BUILTINS,
         },
     )
@@ -260,9 +266,10 @@ fn say_cause(
     fault: Fault,
     cause: Cause,
     content: Option<&[u8]>,
+    policy: &[u8],
 ) -> Result<(), AllocError> {
     if let Some(text) = content
-        && let Some(detail) = detail_in(alloc, fault, text)?
+        && let Some(detail) = detail_in(alloc, fault, text, policy)?
     {
         return say_detail(into, fault, cause, text, &detail);
     }
@@ -274,17 +281,19 @@ fn say_cause(
 }
 
 /// Returns the message for an error in the file of this name. `content` holds the start of the
-/// file, if it is known. Fails if out of memory.
+/// file, if it is known, and `policy` the text of the command's policy, or nothing. Fails if out of
+/// memory.
 pub fn tell_fault(
     alloc: Global,
     fault: Fault,
     name: &str,
     content: Option<&[u8]>,
+    policy: &[u8],
 ) -> Result<Vec<u8>, AllocError> {
     let cause = cause_of(fault.kind, fault.code);
     let mut text = Vec::new(alloc);
     say_around(&mut text, "", name_shown(name), ":")?;
-    say_cause(alloc, &mut text, fault, cause, content)?;
+    say_cause(alloc, &mut text, fault, cause, content, policy)?;
     if let Some(content) = content {
         say_of_whole(&mut text, fault, content)?;
     }

@@ -20,6 +20,8 @@ pub struct Error<'a> {
     /// The number of its line, or 0 if it has none.
     pub line: u64,
     pub text: &'a [u8],
+    /// The text of the policy that the command reads; empty if it isn't known.
+    pub policy: &'a [u8],
     /// The names of the built-in transactions.
     pub builtins: &'a [&'a str],
 }

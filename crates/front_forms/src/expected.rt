@@ -1,6 +1,6 @@
 //! What was expected at a place, and what was found.
 use crate::breaks::{Break, part};
-use crate::near::nearest;
+use crate::near::say_nearest;
 use crate::rows::ROWS;
 use crate::walk::Walk;
 use crate::want::Want;
@@ -195,14 +195,8 @@ fn say_near(
         return Ok(());
     }
     let small = in_small(alloc, bytes)?;
-    let Ok(word) = str::from_utf8(&small) else {
-        return Ok(());
-    };
     let texts = texts_of(alloc, walk)?;
-    match nearest(alloc, word, &texts)? {
-        Some(text) => say_around(into, "; did you mean `", text, "`?"),
-        None => Ok(()),
-    }
+    say_nearest(alloc, into, &small, &texts)
 }
 
 /// Appends what was expected where a line breaks, and what was found.

@@ -2,7 +2,8 @@
 use crate::breaks::part;
 use crate::detail::{Detail, Error, blanks};
 use crate::expected::say_quoted;
-use crate::rules::at_word;
+use crate::near::say_nearest;
+use crate::rules::{at_word, nodes_of};
 use crate::wording::{say, say_number, say_thousands};
 use crate::words::{Entry, Word, bytes_of, entries};
 use std::alloc::{AllocError, Global};
@@ -45,19 +46,32 @@ pub fn map_detail(alloc: Global, error: Error<'_>) -> Result<Option<Detail>, All
                 address_of(error.text, entry)
             };
             say(&mut message, expected(error.code))?;
-            say_quoted(&mut message, bytes_of(error.text, word))?;
-            if error.code == 4 {
-                say_first(
-                    &mut message,
-                    error.text,
-                    &entries,
-                    bytes_of(error.text, word),
-                )?;
-            }
+            let found = bytes_of(error.text, word);
+            say_quoted(&mut message, found)?;
+            say_of_name(alloc, &mut message, error, &entries, found)?;
             return Ok(Some(at_word(entry, word, message)));
         }
     }
     Ok(None)
+}
+
+/// Appends the declared name that is near to one that isn't declared, or the first line of a name
+/// that is written twice.
+fn say_of_name(
+    alloc: Global,
+    into: &mut Vec<u8>,
+    error: Error<'_>,
+    entries: &[Entry],
+    name: &[u8],
+) -> Result<(), AllocError> {
+    match error.code {
+        3 => {
+            let names = nodes_of(alloc, error)?;
+            say_nearest(alloc, into, name, &names)
+        }
+        4 => say_first(into, error.text, entries, name),
+        _ => Ok(()),
+    }
 }
 
 /// Appends the first line of a map with this name.

@@ -1,13 +1,12 @@
 //! Nodes, leaves and classes that aren't listed exactly once.
 use crate::detail::Detail;
 use crate::expected::say_quoted;
-use crate::near::nearest;
+use crate::near::say_nearest;
 use crate::rules::at_word;
-use crate::wording::{say, say_around, say_number};
+use crate::wording::{say, say_number};
 use crate::words::{Entry, bytes_of};
 use policy_text_defs::is;
 use std::alloc::{AllocError, Global};
-use std::str;
 
 /// Returns the numbers of the lines of one kind that list a name, once for each time.
 fn lists_of(
@@ -61,10 +60,7 @@ fn say_no_root(alloc: Global, into: &mut Vec<u8>, name: &[u8]) -> Result<(), All
     say(into, "expected a node or leaf named root, found none; ")?;
     say_quoted(into, name)?;
     say(into, " is in no list")?;
-    match nearest(alloc, str::from_utf8(name).unwrap_or(""), &["root"])? {
-        Some(root) => say_around(into, "; did you mean `", root, "`?"),
-        None => Ok(()),
-    }
+    say_nearest(alloc, into, name, &["root"])
 }
 
 /// Returns the node or leaf that isn't listed exactly once as a child.

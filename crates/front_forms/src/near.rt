@@ -1,5 +1,7 @@
 //! Names that are similar to a word.
+use crate::wording::say_around;
 use std::alloc::{AllocError, Global};
+use std::str;
 use strsim::levenshtein;
 
 /// The most edits between a word and a similar name.
@@ -31,4 +33,17 @@ pub fn nearest<'a>(
         }
     }
     Ok(found)
+}
+
+/// Appends the name that is nearest to a word, if one is near. Fails if out of memory.
+pub fn say_nearest(
+    alloc: Global,
+    into: &mut Vec<u8>,
+    word: &[u8],
+    names: &[&str],
+) -> Result<(), AllocError> {
+    match nearest(alloc, str::from_utf8(word).unwrap_or(""), names)? {
+        Some(name) => say_around(into, "; did you mean `", name, "`?"),
+        None => Ok(()),
+    }
 }

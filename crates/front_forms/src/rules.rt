@@ -2,13 +2,12 @@
 use crate::detail::{Detail, Error, value_column};
 use crate::expected::say_quoted;
 use crate::listed::{class_detail, orphan_detail};
-use crate::near::nearest;
+use crate::near::say_nearest;
 use crate::wording::{say, say_around, say_number};
-use crate::words::{Entry, Word, bytes_of};
+use crate::words::{Entry, Word, bytes_of, entries};
 use policy_text_defs::name_of;
 use std::alloc::{AllocError, Global};
 use std::collections::BTreeSet;
-use std::str;
 
 /// A space of names, in which each is declared once.
 #[derive(Clone, Copy, PartialEq, Eq)]
@@ -163,6 +162,16 @@ fn declared<'a>(
     Ok(found)
 }
 
+/// Returns the names of the nodes and leaves of the policy that an error's text is for.
+pub fn nodes_of<'a>(alloc: Global, error: Error<'a>) -> Result<Vec<&'a str>, AllocError> {
+    let entries = entries(alloc, error.policy)?;
+    let policy = Error {
+        text: error.policy,
+        ..error
+    };
+    declared(alloc, policy, &entries, Space::Node)
+}
+
 /// Returns the first name among words that isn't one of these names.
 fn first_unknown(
     alloc: Global,
@@ -207,9 +216,7 @@ fn unknown_in(
         " that is declared, found ",
     )?;
     say_quoted(&mut message, bytes)?;
-    if let Some(name) = nearest(alloc, str::from_utf8(bytes).unwrap_or(""), &names)? {
-        say_around(&mut message, "; did you mean `", name, "`?")?;
-    }
+    say_nearest(alloc, &mut message, bytes, &names)?;
     Ok(Some(at_word(entry, word, message)))
 }
 

@@ -7,7 +7,7 @@ use crate::progress::Watched;
 use crate::told::tell;
 use front_core::{
     Asked, Catching, Fault, Mistake, Request, ask, fault_in, file_of, help_of, help_of_all,
-    tell_fault, tell_mistake,
+    policy_of, tell_fault, tell_mistake,
 };
 use front_defs::{Command, Options, View};
 use outside_core::{FileShelf, StdSink};
@@ -46,6 +46,19 @@ fn words_of(rt: &HostRuntime) -> io::Result<Vec<String>> {
     Ok(words)
 }
 
+/// Returns the first bytes of the policy that an error in a map is about, or nothing.
+fn policy_for(
+    rt: &HostRuntime,
+    options: &Options<'_>,
+    fault: Fault,
+) -> Result<Vec<u8>, AllocError> {
+    let text = match policy_of(options) {
+        Some(name) if fault.kind == FaultKind::Map => front_of(rt, name)?,
+        _ => None,
+    };
+    Ok(text.unwrap_or(Vec::new(rt.alloc())))
+}
+
 /// Writes the message for an error that the output names to standard error.
 fn tell_of(rt: &HostRuntime, options: &Options<'_>, fault: Fault) -> Result<(), AllocError> {
     let name = match file_of(options, fault.kind) {
@@ -57,7 +70,8 @@ fn tell_of(rt: &HostRuntime, options: &Options<'_>, fault: Fault) -> Result<(), 
         Some(content) => Some(content.as_slice()),
         None => None,
     };
-    let text = tell_fault(rt.alloc(), fault, name, front)?;
+    let policy = policy_for(rt, options, fault)?;
+    let text = tell_fault(rt.alloc(), fault, name, front, &policy)?;
     tell(rt, &add_detail(rt, options, fault, &text)?);
     Ok(())
 }
