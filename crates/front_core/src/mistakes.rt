@@ -3,9 +3,8 @@ ghost use Rattle.std.specs.Prelude.{◌≤◌, length};
 
 use crate::mistake::Mistake;
 use crate::names::{COMMANDS, OPTIONS, TAPS, argument_of, form_of, option_of};
-use crate::near::nearest;
-use crate::say::{say, say_around, say_names, say_short, say_thousands};
 use front_defs::{Command, RateFault, View};
+use front_forms::{nearest, say, say_around, say_names, say_short, say_thousands};
 use std::alloc::{AllocError, Global};
 
 /// The message for a rate that is too small or too great.

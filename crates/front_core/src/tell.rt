@@ -6,10 +6,10 @@ use crate::causes::{Cause, cause_of};
 use crate::fault::Fault;
 use crate::files::{is_text, name_shown};
 use crate::lines::{blanks, clean_length, first_word, line_at};
-use crate::say::{say, say_around, say_number, say_thousands};
 use crate::statements::statement_form;
 use front_defs::Command;
-use front_forms::{Detail, Error, detail_of};
+use front_forms::{Detail, Error, detail_of, say, say_around, say_number, say_thousands};
+use front_warnings::divisor_column;
 use policy_rules::BUILTINS;
 use report_core::FaultKind;
 use std::alloc::{AllocError, Global};
@@ -17,6 +17,9 @@ use std::str;
 
 /// The code for a line that does not parse.
 const BAD_FORM: u64 = 23;
+
+/// The code for a divisor that can be 0.
+const ZERO_DIVISOR: u64 = 7;
 
 /// The code for a byte that no statement has.
 const BAD_BYTE: u64 = 22;
@@ -246,6 +249,10 @@ fn detail_in(
     if !is_at_line(fault) {
         return Ok(None);
     }
+    let divisor = match (fault.kind, fault.code) {
+        (FaultKind::Policy, ZERO_DIVISOR) => divisor_column(alloc, text, fault.place)?,
+        _ => None,
+    };
     detail_of(
         alloc,
         Error {
@@ -254,6 +261,7 @@ fn detail_in(
             line: fault.place,
             text,
             policy,
+            divisor,
             builtins: &BUILTINS,
         },
     )

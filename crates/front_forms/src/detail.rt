@@ -22,6 +22,8 @@ pub struct Error<'a> {
     pub text: &'a [u8],
     /// The text of the policy that the command reads; empty if it isn't known.
     pub policy: &'a [u8],
+    /// The index of the first byte of a divisor that can be 0 in the line, if it is known.
+    pub divisor: Option<usize>,
     /// The names of the built-in transactions.
     pub builtins: &'a [&'a str],
 }

@@ -304,11 +304,16 @@ fn last_class_detail(
     Ok(Some(at_word(entry, word, message)))
 }
 
-/// Returns the place of an error in the expression of a line.
-fn value_detail(alloc: Global, text: &[u8], entry: &Entry) -> Detail {
+/// Returns the place of an error in the expression of a line: at the divisor that can be 0, or at the
+/// whole expression.
+fn value_detail(alloc: Global, error: Error<'_>, entry: &Entry) -> Detail {
+    let column = match error.divisor {
+        Some(column) => column,
+        None => value_column(entry.statement(error.text)),
+    };
     Detail {
         line: entry.line,
-        column: value_column(entry.statement(text)),
+        column,
         message: Vec::new(alloc),
     }
 }
@@ -356,7 +361,7 @@ fn line_detail(
     match (error.code, entry.bytes(error.text, 0)) {
         (3, b"leaf" | b"node") => unknown_name(alloc, error, entries, entry),
         (3, _) => unknown_variable(alloc, error, entries, at, entry),
-        (5..=7, _) => Ok(Some(value_detail(alloc, error.text, entry))),
+        (5..=7, _) => Ok(Some(value_detail(alloc, error, entry))),
         (8, _) => orphan_detail(alloc, error.text, entries, entry),
         (12, _) => class_detail(alloc, error.text, entries, entry),
         _ => {

@@ -1,5 +1,5 @@
-//! Shows what a second reading of a command's inputs finds: details of an error in a capture, and
-//! warnings about a policy and a capture.
+//! Shows what a second reading of a command's inputs finds: details of an error in a capture or a
+//! policy, and warnings about both.
 #![tactic(auto)]
 
 mod attributes;
@@ -8,6 +8,7 @@ mod classic;
 mod conditions;
 mod counts;
 mod damage;
+mod divisors;
 mod findings;
 mod links;
 mod notes;
@@ -19,6 +20,7 @@ mod walk;
 
 pub use counts::{Counts, Seen, Tally};
 pub use damage::{Damage, Found, damage_text};
+pub use divisors::divisor_column;
 pub use findings::capture_warnings;
 pub use links::link_name;
 pub use notes::Notes;

@@ -1,2 +1,0 @@
-//! Names that are similar to a word.
-pub use front_forms::nearest;
