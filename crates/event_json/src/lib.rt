@@ -6,8 +6,6 @@ mod json;
 mod laws;
 mod line;
 mod objects;
-#[cfg(test)]
-mod played;
 mod recorder;
 mod times;
 

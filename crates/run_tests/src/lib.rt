@@ -12,8 +12,14 @@ mod faults;
 #[cfg(test)]
 mod files;
 #[cfg(test)]
+mod json;
+#[cfg(test)]
 mod memory;
 #[cfg(test)]
 mod packets;
+#[cfg(test)]
+mod printed;
+#[cfg(test)]
+mod sums;
 #[cfg(test)]
 mod taps;

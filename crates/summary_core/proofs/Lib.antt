@@ -5,3 +5,5 @@ pub mod RunGroups
 pub mod ShareLemmas
 pub mod Squares
 pub mod PartDelays
+pub mod SortedOnce
+pub mod GroupsOnce

@@ -5,7 +5,7 @@ use Rattle.std.specs.List.Sorted.{IsPermutation}
 use Rattle.policy_defs.specs.Policy.{Policy}
 use Rattle.policy_defs.specs.Accepted.{IsAccepted}
 use Rattle.sched_defs.specs.SourceState.{start}
-use Rattle.sched_defs.specs.Events.{Event, outcomes, CanMake}
+use Rattle.sched_defs.specs.Events.{Event, Outcome, outcomes, CanMake}
 use Rattle.sched_defs.specs.declared.rate.LinkRate.{LinkRate}
 use Rattle.summary_core.specs.declared.group.Label.{Label}
 use Rattle.summary_core.specs.declared.group.Groups.{Groups}
@@ -14,7 +14,7 @@ use Rattle.summary_core.specs.Summary.{Sums, SumsNothing}
 use Rattle.summary_core.specs.declared.part.Part.{Part}
 use Rattle.summary_core.specs.Parts.{is_in}
 use Rattle.summary_core.specs.Figures.{HasGroups}
-use Rattle.summary_core.specs.OfRun.{delays_of, part_delays, AreSumsOf}
+use Rattle.summary_core.specs.OfRun.{delays_of, part_delays, AreSumsOf, AreSame}
 use Rattle.summary_core.specs.Summing.{ClassEvent, no_timestamps, events_by, class_events}
 
 -- for the outcomes of a run, the events by the stored timestamps are the events by each packet's
@@ -39,3 +39,8 @@ GroupsAreOfTheRun = (policy : Policy) (events : List Event) (rate : LinkRate) (t
 abbrev pub DelaysAreOfTheDepartures : Type 0
 DelaysAreOfTheDepartures = (table : List ℕ) (p : Part) (es : List ClassEvent) → AllByRecursion (λ e. e.class < length table) es
     → IsPermutation (delays_of table p es) (part_delays (is_in table p) es)
+
+-- outcomes have one text of their sums, in each form
+abbrev pub GroupsAreDetermined : Type 0
+GroupsAreDetermined = (table : List ℕ) (rate : LinkRate) (os : List Outcome) (leaf_names class_names : List Label) (gs hs : Groups)
+    → AreSumsOf table rate os leaf_names class_names gs → AreSumsOf table rate os leaf_names class_names hs → AreSame gs hs

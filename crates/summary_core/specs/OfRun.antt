@@ -40,3 +40,10 @@ pub record AreSumsOf (table : List ℕ) (rate : LinkRate) (os : List Outcome) (l
   pub leaves : AreGroupsOf table (class_events rate os) kind.Leaf leaf_names gs.leaves.items
   pub classes : AreGroupsOf table (class_events rate os) kind.Class class_names gs.classes.items
   pub fairness : gs.fairness ≡ fairness_of gs.leaves.items
+
+-- the same groups, wherever their lists are in memory
+pub record AreSame (gs hs : Groups) : Type 0 where
+  pub all : gs.all ≡ hs.all
+  pub leaves : gs.leaves.items ≡ hs.leaves.items
+  pub classes : gs.classes.items ≡ hs.classes.items
+  pub fairness : gs.fairness ≡ hs.fairness

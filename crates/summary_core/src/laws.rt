@@ -1,5 +1,5 @@
 //! The laws that follow from the definitions of sums.
-ghost use Rattle.summary_core.specs.Laws.{DelaysAreOfTheDepartures, GroupsAreOfTheRun, TimestampsAreKept};
+ghost use Rattle.summary_core.specs.Laws.{DelaysAreOfTheDepartures, GroupsAreDetermined, GroupsAreOfTheRun, TimestampsAreKept};
 
 /// The timestamp stored for a packet until it departs is the packet's own. So the sums depend on
 /// the outcomes alone.
@@ -16,4 +16,9 @@ pub fn groups_are_of_the_run()
 /// The delays of a part, class by class, are those of its departures in another order.
 pub fn delays_are_those_of_the_departures()
     ensures { DelaysAreOfTheDepartures }
+{}
+
+/// Outcomes determine their groups. So their sums have one text, and one JSON object.
+pub fn groups_are_determined()
+    ensures { GroupsAreDetermined }
 {}

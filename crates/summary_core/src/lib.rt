@@ -11,10 +11,6 @@ mod json;
 mod laws;
 mod numbers;
 mod part;
-#[cfg(test)]
-mod played;
-#[cfg(test)]
-mod printed;
 mod recorder;
 mod summary;
 mod table;
@@ -29,7 +25,7 @@ pub use group::{Figures, Group, Groups, Label};
 pub use groups::groups_of;
 pub use json::put_json;
 pub use laws::{
-    delays_are_those_of_the_departures, groups_are_of_the_run,
+    delays_are_those_of_the_departures, groups_are_determined, groups_are_of_the_run,
     kept_timestamps_are_those_of_the_packets,
 };
 pub use part::Part;

@@ -1,5 +1,5 @@
 //! A run whose lines were written by hand.
-use crate::JsonReport;
+use event_json::JsonReport;
 use outside_core::PlainSink;
 use packet_defs::{BLANK, Departed, Packet};
 use sched_defs::{Ending, LinkRate};

@@ -1,10 +1,10 @@
 //! A run whose sums were worked out by hand.
-use crate::{Delays, Summary, percentiles};
 use outside_core::PlainSink;
 use packet_defs::{BLANK, Departed, Packet};
 use sched_defs::LinkRate;
 use sched_run::Recorder;
 use std::test::Fail;
+use summary_core::{Delays, Summary, percentiles};
 
 /// Returns a packet of the first class.
 pub(crate) fn packet(number: u64, len: u32, moment: u64) -> Packet {

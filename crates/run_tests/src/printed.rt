@@ -1,12 +1,12 @@
 //! A run whose text was worked out by hand.
-use crate::played::{departure, packet};
-use crate::{Label, Summary, groups_of, put_json, put_text};
+use crate::sums::{departure, packet};
 use list_core::Name;
 use outside_core::PlainSink;
 use sched_defs::LinkRate;
 use sched_run::Recorder;
 use std::alloc::{AllocError, Global};
 use std::test::Fail;
+use summary_core::{Label, Summary, groups_of, put_json, put_text};
 
 /// The lines of the text, each with its line feed.
 const TEXT: [&str; 10] = [
