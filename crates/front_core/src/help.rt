@@ -25,6 +25,7 @@ RATE is 10Mbit, 10gbit, 1.25MB or 125000 (bytes a second). The file - is standar
     --overhead BYTES      bytes that link and forward add to each packet, 0 to 65535; Ethernet has 24
 -t, --tap NAME            one more line at the end of replay: bytes, order, first or drops
     --plain               write the line `fault KIND CODE PLACE` too, and no messages
+    --summary[=json]      write sums of direct, replay or link instead of events
 -q, --quiet               write no messages
 -V, --version             the version
 ";
@@ -50,24 +51,24 @@ high a target would have to be.
 
 /// The help text of `replay`.
 const REPLAY: &str = "\
-zovatsemo replay POLICY TARGET CAPTURE SCRIPT [--tap NAME].. [--json]
+zovatsemo replay POLICY TARGET CAPTURE SCRIPT [--tap NAME].. [--json | --summary[=json]]
 
 Runs the packets of a capture through the target's queues. The script says when packets arrive and depart. Prints a line
 for each event, with the packet and its rank in each queue of the policy. A tap prints one more line at the end; NAME is
-bytes, order, first or drops. With --json there are no taps.
+bytes, order, first or drops. With --json or --summary there are no taps.
 
     zovatsemo replay examples/office/policy examples/office/target examples/office/capture examples/office/script
 ";
 
 /// The help text of `link`.
 const LINK: &str = "\
-zovatsemo link POLICY [TARGET] CAPTURE RATE [--overhead BYTES] [--json]
+zovatsemo link POLICY [TARGET] CAPTURE RATE [--overhead BYTES] [--json | --summary[=json]]
 
 Runs the packets of a capture through the target's queues, at their timestamps, or without a target through the policy's
 own tree. A link of RATE takes them out. Prints what `replay` prints, and the time in nanoseconds at which each packet
-starts on the link.
+starts on the link. With --summary it prints delays, throughput and backlog instead of events.
 
-    zovatsemo link examples/office/policy examples/office/capture 1Mbit --overhead 24 --json
+    zovatsemo link examples/office/policy examples/office/capture 1Mbit --overhead 24 --summary
 ";
 
 /// The help text of `forward`.
@@ -81,7 +82,7 @@ Writes the departures of `link` as a capture (pcap, in nanoseconds), which Wires
 
 /// The help text of `direct`.
 const DIRECT: &str = "\
-zovatsemo direct POLICY CAPTURE SCRIPT [--json]
+zovatsemo direct POLICY CAPTURE SCRIPT [--json | --summary[=json]]
 
 Prints what `replay` prints, computed with the policy's own tree of queues. It needs no target.
 

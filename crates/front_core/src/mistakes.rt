@@ -124,11 +124,7 @@ fn option_parts_of<'a>(mistake: Mistake<'a>) -> (&'static str, &'a str, &'static
             ", found none: without a target there are no rank stores",
         ),
         Mistake::OverheadTwice(word) => ("expected one overhead, found ", word, " as a second one"),
-        Mistake::TwoViews => (
-            "expected one of --json, --summary and --summary=json, found two",
-            "",
-            "",
-        ),
+        Mistake::TwoViews => ("expected one of --json and --summary, found two", "", ""),
         Mistake::NoSummary(word) => (
             "expected --summary or --summary=json, found --summary=",
             word,

@@ -7,7 +7,7 @@ pub const COMMANDS: [&str; 9] = [
 ];
 
 /// The names of the options.
-pub const OPTIONS: [&str; 9] = [
+pub const OPTIONS: [&str; 10] = [
     "--block",
     "--help",
     "--json",
@@ -15,6 +15,7 @@ pub const OPTIONS: [&str; 9] = [
     "--overhead",
     "--plain",
     "--quiet",
+    "--summary",
     "--tap",
     "--version",
 ];

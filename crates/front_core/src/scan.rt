@@ -39,6 +39,8 @@ fn value_after<'a>(option: &'a str, next: Option<&'a str>) -> Result<&'a str, Mi
 fn view_named(word: &str) -> Option<View> {
     match word {
         "--json" => Some(View::Json),
+        "--summary" => Some(View::Summary),
+        "--summary=json" => Some(View::JsonSummary),
         _ => None,
     }
 }
@@ -174,6 +176,8 @@ impl<'a> Scan<'a> {
             self.value("--output", name)?;
         } else if let Some(bytes) = value_in(word, "--overhead=") {
             self.value("--overhead", bytes)?;
+        } else if let Some(form) = value_in(word, "--summary=") {
+            return Err(Mistake::NoSummary(form));
         } else {
             return Err(Mistake::UnknownOption(word));
         }

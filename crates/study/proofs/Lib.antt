@@ -1,3 +1,6 @@
 pub mod RecordedRuns
 pub mod RunLaws
 pub mod JsonLaws
+pub mod LabelLaws
+pub mod SumLaws
+pub mod EndLaws

@@ -5,6 +5,8 @@ use Rattle.replay_app.specs.Statuses.{IsOneOf, IsStop, run_statuses, link_status
 use Rattle.study.specs.declared.parts.Drive.{Drive}
 use Rattle.study.specs.declared.parts.Drive.TheVariants.{Script, Link, Forward}
 use Rattle.study.specs.declared.parts.Study.{Study}
+use Rattle.study.specs.declared.parts.View.{View}
+use Rattle.study.specs.declared.parts.View.TheVariants.{Report, Json, Summary, JsonSummary}
 
 -- the name of the target, if there is one
 abbrev pub target_of : Study → Option (List ℕ)
@@ -32,10 +34,30 @@ HasLinkRate (Link rate) = IsRate rate
 HasLinkRate (Forward rate) = IsRate rate
 
 -- ---- statuses
-abbrev pub drive_statuses : Drive → List ℕ
-drive_statuses (Script e) = run_statuses
-drive_statuses (Link rate) = link_statuses
-drive_statuses (Forward rate) = forward_statuses
+-- the views that sum a run up
+abbrev pub IsSum : View → Type 0
+IsSum Report = ⊥
+IsSum Json = ⊥
+IsSum Summary = Unit {0}
+IsSum JsonSummary = Unit {0}
+
+-- whether a run is summed up; the view of a forward is ignored
+abbrev pub IsSummedUp : Drive → View → Type 0
+IsSummedUp (Script e) view = IsSum view
+IsSummedUp (Link rate) view = IsSum view
+IsSummedUp (Forward rate) view = ⊥
+
+-- a sum may have no room
+abbrev pub view_statuses : View → List ℕ → List ℕ
+view_statuses Report others = others
+view_statuses Json others = others
+view_statuses Summary others = 14 ∷ others
+view_statuses JsonSummary others = 14 ∷ others
+
+abbrev pub drive_statuses : Drive → View → List ℕ
+drive_statuses (Script e) view = view_statuses view run_statuses
+drive_statuses (Link rate) view = view_statuses view link_statuses
+drive_statuses (Forward rate) view = forward_statuses
 
 -- a target may be rejected, or may have no room for the policy's tree
 abbrev pub target_statuses : Option (List ℕ) → List ℕ → List ℕ
@@ -44,7 +66,7 @@ target_statuses (Some t) others = 4 ∷ 5 ∷ others
 
 -- the possible statuses, if nothing stops the program
 abbrev pub study_statuses : Study → List ℕ
-study_statuses s = 3 ∷ target_statuses (target_of s) (drive_statuses s.drive)
+study_statuses s = 3 ∷ target_statuses (target_of s) (drive_statuses s.drive s.view)
 
 -- a study can end with this status
 abbrev pub CanStudyEnd : Study → ℕ → Type 0

@@ -1,9 +1,14 @@
 -- Worked examples of studies.
-use Rattle.std.specs.Prelude.{◌≡◌, refl, ℕ, None, Some, List, [], ◌∷◌, ◌++◌, codes}
+use Rattle.std.specs.Prelude.{◌≡◌, refl, ℕ, None, Some, List, [], ◌∷◌, ◌++◌, map, codes}
 use Rattle.std.specs.Fmt.{digits}
 use Rattle.pcap_defs.specs.Reading.{capture_of, head_of, front_of, records_from}
 use Rattle.policy_defs.specs.Policy.{one_leaf}
 use Rattle.policy_rules.specs.Resolved.{Resolved}
+use Rattle.policy_core.specs.Office.{office_lines}
+use Rattle.sched_defs.specs.Rows.{in_turn, by_weight}
+use Rattle.sched_defs.specs.declared.ending.Ending.TheVariants.{Whole, BadCapture, PastLast}
+use Rattle.study.specs.Labels.{all_leaf_labels, leaf_table, class_labels}
+use Rattle.study.specs.SumRuns.{ending_line}
 use Rattle.sched_defs.specs.Pace.{Link}
 use Rattle.sched_defs.specs.declared.rate.LinkRate.{LinkRate}
 use Rattle.replay_app.specs.Answer.{text_alone}
@@ -49,6 +54,23 @@ departures_with_overhead = refl
 departures_without_a_capture : departures fifo rate (0xD4 ∷ 0xC3 ∷ 0xB2 ∷ []) ≡ text_alone 7 (codes "fault capture 1 0\n")
 unfolding digits capture_of head_of
 departures_without_a_capture = refl
+
+-- ---- sums
+-- the root has no label
+leaves_by_weight : all_leaf_labels by_weight.tree ≡ record { name = codes "a"; weight = 3 } ∷ record { name = codes "b"; weight = 1 } ∷ []
+leaves_by_weight = refl
+
+-- the root has number 0, and the leaf of the second class has number 2
+leaves_of_classes : leaf_table in_turn ≡ 0 ∷ 1 ∷ []
+leaves_of_classes = refl
+
+names_of_classes : map (λ l. l.name) (class_labels office_lines)
+    ≡ codes "voice" ∷ codes "video" ∷ codes "ssh" ∷ codes "dns" ∷ codes "web" ∷ codes "mail" ∷ codes "backup" ∷ codes "other" ∷ []
+names_of_classes = refl
+
+line_after_the_sums : ending_line (Whole 5) ∷ ending_line (BadCapture 5 8) ∷ ending_line (PastLast 9) ∷ [] ≡ [] ∷ codes "fault capture 5 8\n" ∷ codes "fault script 3 9\n" ∷ []
+unfolding digits
+line_after_the_sums = refl
 
 -- ---- files and statuses
 without_a_target : with_target None (codes "c" ∷ codes "e" ∷ []) ≡ codes "c" ∷ codes "e" ∷ []

@@ -1,25 +1,30 @@
 -- The output of a study for its files. A reader of the contract of `study` has to trust these
 -- definitions.
-use Rattle.std.specs.Prelude.{◌≡◌, ℕ, Option, None, Some, List}
+use Rattle.std.specs.Prelude.{◌≡◌, ◌⊎◌, ℕ, Option, None, Some, List, []}
+use Rattle.outside_core.specs.Written.{Appended}
 use Rattle.tree_defs.specs.Topology.{Topology, topology_of}
 use Rattle.policy_rules.specs.Resolved.{Resolved}
 use Rattle.sched_defs.specs.Pace as pace
 use Rattle.sched_defs.specs.declared.rate.LinkRate.{LinkRate}
 use Rattle.target_core.specs.declared.target.Target.{Target}
+use Rattle.sched_capture.specs.Answers.{paced_answer}
 use Rattle.sched_capture.specs.Forwards.{forward_answer}
-use Rattle.replay_app.specs.Answer.{Answer, text_alone}
+use Rattle.summary_core.specs.Text.{summary_text}
+use Rattle.summary_core.specs.Json.{summary_json}
+use Rattle.replay_app.specs.Answer.{Answer, IsGiven, text_alone}
 use Rattle.replay_app.specs.Output.{direct_run}
 use Rattle.replay_app.specs.Policies.{Judged, UnderPolicy}
 use Rattle.replay_app.specs.Scripts.{AlongScript, script_pace}
 use Rattle.replay_app.specs.Statuses.{status_code, forward_status}
 use Rattle.replay_app.specs.Targets.{ForTarget, WithRoom}
-use Rattle.study.specs.Files.{target_of}
+use Rattle.study.specs.Files.{target_of, IsSummedUp}
 use Rattle.study.specs.JsonRuns.{json_run}
+use Rattle.study.specs.SumRuns.{IsSummed}
 use Rattle.study.specs.declared.parts.Drive.{Drive}
 use Rattle.study.specs.declared.parts.Drive.TheVariants.{Script, Link, Forward}
 use Rattle.study.specs.declared.parts.Study.{Study}
 use Rattle.study.specs.declared.parts.View.{View}
-use Rattle.study.specs.declared.parts.View.TheVariants.{Report, Json}
+use Rattle.study.specs.declared.parts.View.TheVariants.{Report, Json, Summary, JsonSummary}
 
 -- The target needs room for a policy's tree. A run through a target gives the output of a run
 -- through the policy's own tree.
@@ -39,6 +44,8 @@ InTarget (Some t) tree contents after = ForTargetText (contents t) tree after
 abbrev pub IsViewed : View → Judged → pace.Pace → List ℕ → Answer → Type 0
 IsViewed Report judged paced capture = λ a. a ≡ direct_run judged.policy paced capture
 IsViewed Json judged paced capture = λ a. a ≡ json_run judged.policy paced capture
+IsViewed Summary judged paced capture = IsSummed summary_text judged paced (paced_answer judged.policy paced capture)
+IsViewed JsonSummary judged paced capture = IsSummed summary_json judged paced (paced_answer judged.policy paced capture)
 
 -- the departures of a link as a capture, and the status of the run
 abbrev pub departures : Resolved → LinkRate → List ℕ → Answer
@@ -62,3 +69,16 @@ IsStudied s contents =
     UnderPolicy (contents s.policy.now) (λ judged.
     InTarget (target_of s) (topology_of judged.policy.policy.tree) contents (
     IsDriven s.drive s.view judged (contents s.capture.now) contents))
+
+-- The run is summed up, and a sum had no room: nothing is written, with the status of a departure
+-- that starts too late. Runs of fewer than 2^32 packets always have room, unless a delay is 2^64
+-- nanoseconds or more.
+pub record HasNoRoomForSums (s : Study) (status : ℕ) (old new : Option (List ℕ)) : Type 0 where
+  pub summed_up : IsSummedUp s.drive s.view
+  pub status_is : status ≡ 14
+  pub nothing : Appended old new []
+
+-- one of the outputs was given, or the program was stopped with a prefix of every output, or a sum
+-- had no room
+abbrev pub IsAnswered : Study → (List ℕ → List ℕ) → ℕ → Option (List ℕ) → Option (List ℕ) → Type 0
+IsAnswered s contents status old new = IsGiven (IsStudied s contents) status old new ⊎ HasNoRoomForSums s status old new

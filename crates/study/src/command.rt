@@ -1,10 +1,9 @@
 //! The entry point.
 ghost use Rattle.std.specs.Prelude.{◌≡◌, ◌<◌, ◌≤◌, ◌^◌};
 ghost use Rattle.outside_core.specs.Faults.{Rose};
-ghost use Rattle.replay_app.specs.Answer.{IsGiven};
 ghost use Rattle.replay_app.specs.Words.{AreLent, WhereTold};
 ghost use Rattle.study.specs.Files.{study_files, HasLinkRate, CanStudyEnd};
-ghost use Rattle.study.specs.Studied.{IsStudied};
+ghost use Rattle.study.specs.Studied.{IsAnswered};
 
 use crate::parts::Study;
 use crate::stages::study_inputs;
@@ -29,9 +28,9 @@ pub fn study<S: Shelf, K: Sink, F: Fabric>(
     requires pops { F.popped fabric.old < 2 ^ 61 }
 
     // If file contents are known to the contract: the output is written whole with its status, or a
-    // prefix of it with status 8, 9 or 10.
+    // prefix of it with status 8, 9 or 10. If a sum has no room, nothing is written, with status 14.
     ensures answer { WhereTold (S.content shelf.old) (study_files study.now) (λ contents.
-        IsGiven (IsStudied study.now contents) result (K.written sink.old) (K.written sink.new)) }
+        IsAnswered study.now contents result (K.written sink.old) (K.written sink.new)) }
 
     // For any file contents: the guarantees that follow from the study alone.
     ensures statuses { CanStudyEnd study.now result }

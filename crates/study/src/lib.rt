@@ -3,10 +3,12 @@
 #![tactic(auto)]
 
 mod command;
+mod labels;
 mod parts;
 mod recorded;
 mod runs;
 mod stages;
+mod sums;
 mod views;
 
 pub use command::study;

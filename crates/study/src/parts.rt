@@ -8,6 +8,10 @@ pub enum View {
     Report,
     /// JSON lines, as `event_json` writes them.
     Json,
+    /// Sums in place of the outcomes, as text.
+    Summary,
+    /// Sums in place of the outcomes, as one JSON object.
+    JsonSummary,
 }
 
 /// What paces the run.

@@ -3,12 +3,12 @@ ghost use Rattle.std.specs.Prelude.{◌≡◌, ◌<◌, ◌≤◌, ◌^◌, ◌�
 ghost use Rattle.outside_core.specs.Faults.{Rose};
 ghost use Rattle.tree_defs.specs.Topology.{topology_of};
 ghost use Rattle.target_defs.specs.Target.{IsInRange};
-ghost use Rattle.replay_app.specs.Answer.{IsTold};
 ghost use Rattle.replay_app.specs.Policies.{judged_of};
 ghost use Rattle.replay_app.specs.Statuses.{IsOneOf, run_statuses, status_code};
 ghost use Rattle.replay_app.specs.Words.{AreLent, WhereTold};
-ghost use Rattle.study.specs.Files.{target_of, with_target, drive_files, study_files, HasLinkRate, drive_statuses, target_statuses, study_statuses};
+ghost use Rattle.study.specs.Files.{target_of, with_target, drive_files, study_files, HasLinkRate, drive_statuses, target_statuses, study_statuses, IsSummedUp, IsSum, view_statuses};
 ghost use Rattle.study.specs.Placed.{IsPlaced};
+ghost use Rattle.study.specs.SumRuns.{IsToldOr, HasNames};
 ghost use Rattle.study.specs.Studied.{AlongSteps, IsDriven, FitsIn, ForTargetText, InTarget, IsStudied};
 
 use crate::parts::{Drive, Study};
@@ -40,11 +40,12 @@ fn study_script<S: Shelf, K: Sink, F: Fabric>(
     requires pushes { F.pushed fabric.old < 2 ^ 61 }
     requires pops { F.popped fabric.old < 2 ^ 61 }
 
-    ensures answer { WhereTold (S.content shelf.old) (study.now.capture.now ∷ name.now ∷ [])
-        (λ contents.
-        IsTold (AlongSteps name.now study.now.view (judged_of judged.now) (contents study.now.capture.now) contents) result
+    ensures answer { HasNames (judged_of judged.now) → WhereTold (S.content shelf.old)
+        (study.now.capture.now ∷ name.now ∷ []) (λ contents.
+        IsToldOr (IsSum study.now.view) (AlongSteps name.now study.now.view (judged_of judged.now) (contents study.now.capture.now) contents) result
         (K.written sink.old) (K.written sink.new)) }
-    ensures statuses { IfOk result (λ s. IsOneOf run_statuses (status_code s)) }
+    ensures statuses { IfOk result (λ s. IsOneOf (view_statuses study.now.view run_statuses)
+        (status_code s)) }
     ensures shelf_cause { IsErrOf result Stop.Source → Rose (S.faults shelf.old)
         (S.faults shelf.new) }
     ensures sink_cause { IsErrOf result Stop.Sink → Rose (K.faults sink.old) (K.faults sink.new) }
@@ -78,11 +79,11 @@ fn study_driven<S: Shelf, K: Sink, F: Fabric>(
     requires pushes { F.pushed fabric.old < 2 ^ 61 }
     requires pops { F.popped fabric.old < 2 ^ 61 }
 
-    ensures answer { WhereTold (S.content shelf.old) (study.now.capture.now ∷ drive_files
-        study.now.drive) (λ contents.
-        IsTold (IsDriven study.now.drive study.now.view (judged_of judged.now) (contents study.now.capture.now) contents) result
+    ensures answer { HasNames (judged_of judged.now) → WhereTold (S.content shelf.old)
+        (study.now.capture.now ∷ drive_files study.now.drive) (λ contents.
+        IsToldOr (IsSummedUp study.now.drive study.now.view) (IsDriven study.now.drive study.now.view (judged_of judged.now) (contents study.now.capture.now) contents) result
         (K.written sink.old) (K.written sink.new)) }
-    ensures statuses { IfOk result (λ s. IsOneOf (drive_statuses study.now.drive)
+    ensures statuses { IfOk result (λ s. IsOneOf (drive_statuses study.now.drive study.now.view)
         (status_code s)) }
     ensures shelf_cause { IsErrOf result Stop.Source → Rose (S.faults shelf.old)
         (S.faults shelf.new) }
@@ -129,12 +130,12 @@ fn study_placed<S: Shelf, K: Sink, F: Fabric>(
     requires pushes { F.pushed fabric.old < 2 ^ 61 }
     requires pops { F.popped fabric.old < 2 ^ 61 }
 
-    ensures answer { WhereTold (S.content shelf.old) (study.now.capture.now ∷ drive_files
-        study.now.drive) (λ contents.
-        IsTold (FitsIn target (topology_of judged.now.policy.policy.tree)
+    ensures answer { HasNames (judged_of judged.now) → WhereTold (S.content shelf.old)
+        (study.now.capture.now ∷ drive_files study.now.drive) (λ contents.
+        IsToldOr (IsSummedUp study.now.drive study.now.view) (FitsIn target (topology_of judged.now.policy.policy.tree)
         (IsDriven study.now.drive study.now.view (judged_of judged.now) (contents study.now.capture.now) contents)) result
         (K.written sink.old) (K.written sink.new)) }
-    ensures statuses { IfOk result (λ s. IsOneOf (5 ∷ drive_statuses study.now.drive)
+    ensures statuses { IfOk result (λ s. IsOneOf (5 ∷ drive_statuses study.now.drive study.now.view)
         (status_code s)) }
     ensures shelf_cause { IsErrOf result Stop.Source → Rose (S.faults shelf.old)
         (S.faults shelf.new) }
@@ -167,13 +168,13 @@ fn study_target<S: Shelf, K: Sink, F: Fabric>(
     requires pushes { F.pushed fabric.old < 2 ^ 61 }
     requires pops { F.popped fabric.old < 2 ^ 61 }
 
-    ensures answer { WhereTold (S.content shelf.old)
+    ensures answer { HasNames (judged_of judged.now) → WhereTold (S.content shelf.old)
         (name.now ∷ study.now.capture.now ∷ drive_files study.now.drive) (λ contents.
-        IsTold (ForTargetText (contents name.now) (topology_of judged.now.policy.policy.tree)
+        IsToldOr (IsSummedUp study.now.drive study.now.view) (ForTargetText (contents name.now) (topology_of judged.now.policy.policy.tree)
         (IsDriven study.now.drive study.now.view (judged_of judged.now) (contents study.now.capture.now) contents)) result
         (K.written sink.old) (K.written sink.new)) }
-    ensures statuses { IfOk result (λ s. IsOneOf (4 ∷ 5 ∷ drive_statuses study.now.drive)
-        (status_code s)) }
+    ensures statuses { IfOk result (λ s. IsOneOf
+        (4 ∷ 5 ∷ drive_statuses study.now.drive study.now.view) (status_code s)) }
     ensures shelf_cause { IsErrOf result Stop.Source → Rose (S.faults shelf.old)
         (S.faults shelf.new) }
     ensures sink_cause { IsErrOf result Stop.Sink → Rose (K.faults sink.old) (K.faults sink.new) }
@@ -200,13 +201,14 @@ fn study_policy<S: Shelf, K: Sink, F: Fabric>(
     requires pushes { F.pushed fabric.old < 2 ^ 61 }
     requires pops { F.popped fabric.old < 2 ^ 61 }
 
-    ensures answer { WhereTold (S.content shelf.old) (with_target (target_of study.now)
-        (study.now.capture.now ∷ drive_files study.now.drive)) (λ contents.
-        IsTold (InTarget (target_of study.now) (topology_of judged.now.policy.policy.tree) contents
+    ensures answer { HasNames (judged_of judged.now) → WhereTold (S.content shelf.old)
+        (with_target (target_of study.now) (study.now.capture.now ∷ drive_files study.now.drive))
+        (λ contents.
+        IsToldOr (IsSummedUp study.now.drive study.now.view) (InTarget (target_of study.now) (topology_of judged.now.policy.policy.tree) contents
         (IsDriven study.now.drive study.now.view (judged_of judged.now) (contents study.now.capture.now) contents)) result
         (K.written sink.old) (K.written sink.new)) }
     ensures statuses { IfOk result (λ s. IsOneOf (target_statuses (target_of study.now)
-        (drive_statuses study.now.drive)) (status_code s)) }
+        (drive_statuses study.now.drive study.now.view)) (status_code s)) }
     ensures shelf_cause { IsErrOf result Stop.Source → Rose (S.faults shelf.old)
         (S.faults shelf.new) }
     ensures sink_cause { IsErrOf result Stop.Sink → Rose (K.faults sink.old) (K.faults sink.new) }
@@ -232,7 +234,7 @@ pub fn study_inputs<S: Shelf, K: Sink, F: Fabric>(
     requires pops { F.popped fabric.old < 2 ^ 61 }
 
     ensures answer { WhereTold (S.content shelf.old) (study_files study.now) (λ contents.
-        IsTold (IsStudied study.now contents) result (K.written sink.old) (K.written sink.new)) }
+        IsToldOr (IsSummedUp study.now.drive study.now.view) (IsStudied study.now contents) result (K.written sink.old) (K.written sink.new)) }
     ensures statuses { IfOk result (λ s. IsOneOf (study_statuses study.now) (status_code s)) }
     ensures shelf_cause { IsErrOf result Stop.Source → Rose (S.faults shelf.old)
         (S.faults shelf.new) }

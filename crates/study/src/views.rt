@@ -1,5 +1,5 @@
 //! Runs whose outcomes are written in the form that a view names.
-ghost use Rattle.std.specs.Prelude.{◌≡◌, ◌<◌, ◌≤◌, ◌^◌, IfOk, IfSome, IsTrue, OnOk, OnErr, IsErrOf};
+ghost use Rattle.std.specs.Prelude.{◌≡◌, ◌<◌, ◌≤◌, ◌^◌, ◌∷◌, IfOk, IfSome, IsTrue, OnOk, OnErr, IsErrOf};
 ghost use Rattle.outside_core.specs.Faults.{Rose};
 ghost use Rattle.outside_core.specs.Kept.{KeepsSink};
 ghost use Rattle.outside_core.specs.Written.{Appended};
@@ -7,6 +7,7 @@ ghost use Rattle.report_defs.specs.Text.{IsCut};
 ghost use Rattle.report_core.specs.Gathered.{text_of};
 ghost use Rattle.sched_defs.specs.SendTime.{IsRate};
 ghost use Rattle.sched_run.specs.Steps.{pace_of, IsBounded};
+ghost use Rattle.sched_capture.specs.Answers.{paced_answer};
 ghost use Rattle.event_json.specs.Json.{json_end};
 ghost use Rattle.replay_app.specs.Answer.{IsTold};
 ghost use Rattle.replay_app.specs.Output.{direct_run};
@@ -14,11 +15,15 @@ ghost use Rattle.replay_app.specs.Policies.{judged_of};
 ghost use Rattle.replay_app.specs.Statuses.{IsOneOf, pace_statuses, forward_statuses, run_status, status_code};
 ghost use Rattle.study.specs.JsonRuns.{rate_in, json_run};
 ghost use Rattle.study.specs.Placed.{IsPlaced};
+ghost use Rattle.study.specs.Files.{IsSum, view_statuses};
+ghost use Rattle.study.specs.SumRuns.{IsSummed, IsToldOr, HasNames, render};
 ghost use Rattle.study.specs.Studied.{IsViewed, departures};
 
+use crate::labels::{leaf_table, leaves_of};
 use crate::parts::View;
 use crate::recorded::Recorded;
 use crate::runs::{record, write_departures, write_report};
+use crate::sums::{Form, sum_rate, tell_sums};
 use event_json::JsonReport;
 use fabric_core::Fabric;
 use outside_core::{Shelf, Sink, Stop};
@@ -28,6 +33,7 @@ use sched_capture::{Ending, Placement, Task};
 use sched_defs::LinkRate;
 use sched_run::Pace;
 use std::alloc::Global;
+use summary_core::Summary;
 
 /// Runs a task, and writes its report.
 fn view_report<S: Shelf, K: Sink, F: Fabric>(
@@ -121,6 +127,56 @@ fn view_json<S: Shelf, K: Sink, F: Fabric>(
     }
 }
 
+/// Runs a task, and writes its sums in this form.
+fn view_sums<S: Shelf, K: Sink, F: Fabric>(
+    alloc: Global,
+    form: Form,
+    judged: &Judged,
+    place: Option<Placement>,
+    task: &Task<'_, '_>,
+    shelf: &mut S,
+    sink: &mut K,
+    fabric: &mut F,
+) -> Result<Status, Stop>
+    requires lent { IsTrue (S.lends shelf.old task.now.capture.now) }
+    requires bounded { IsBounded task.now.pace }
+    requires placed { IfSome place (IsPlaced judged.now.policy.policy) }
+    requires pushes { F.pushed fabric.old < 2 ^ 61 }
+    requires pops { F.popped fabric.old < 2 ^ 61 }
+
+    ensures answer { HasNames (judged_of judged.now) → IfSome (S.content shelf.old
+        task.now.capture.now) (λ file.
+        IsToldOr (Unit {0}) (IsSummed (render form) (judged_of judged.now) (pace_of task.now.pace)
+        (paced_answer judged.now.policy (pace_of task.now.pace) file)) result
+        (K.written sink.old) (K.written sink.new)) }
+    ensures statuses { IfOk result (λ s. IsOneOf (14 ∷ pace_statuses task.now.pace)
+        (status_code s)) }
+    ensures shelf_cause { IsErrOf result Stop.Source → Rose (S.faults shelf.old)
+        (S.faults shelf.new) }
+    ensures sink_cause { IsErrOf result Stop.Sink → Rose (K.faults sink.old) (K.faults sink.new) }
+    ensures sink_later { K.faults sink.old ≤ K.faults sink.new }
+{
+    let policy = &judged.policy;
+    let leaves = leaves_of(alloc, policy)?;
+    let table = leaf_table(alloc, policy, &leaves)?;
+    let summary = Summary::new(alloc, sum_rate(task.pace), table, leaves.labels.len())?;
+    let recorded = record(alloc, policy, place, task, summary, shelf, sink, fabric)?;
+    match recorded {
+        Recorded::Whole(ending, summary) => {
+            tell_sums(
+                alloc,
+                form,
+                &judged.lines,
+                &leaves.labels,
+                &summary,
+                ending,
+                sink,
+            )
+        }
+        Recorded::Refused(ending) => Ok(Status::of_run(ending)),
+    }
+}
+
 /// Runs a task, and writes its outcomes in the form of the view.
 pub fn write_view<S: Shelf, K: Sink, F: Fabric>(
     alloc: Global,
@@ -138,10 +194,12 @@ pub fn write_view<S: Shelf, K: Sink, F: Fabric>(
     requires pushes { F.pushed fabric.old < 2 ^ 61 }
     requires pops { F.popped fabric.old < 2 ^ 61 }
 
-    ensures answer { IfSome (S.content shelf.old task.now.capture.now) (λ file.
-        IsTold (IsViewed view (judged_of judged.now) (pace_of task.now.pace) file) result
+    ensures answer { HasNames (judged_of judged.now) → IfSome (S.content shelf.old
+        task.now.capture.now) (λ file.
+        IsToldOr (IsSum view) (IsViewed view (judged_of judged.now) (pace_of task.now.pace) file) result
         (K.written sink.old) (K.written sink.new)) }
-    ensures statuses { IfOk result (λ s. IsOneOf (pace_statuses task.now.pace) (status_code s)) }
+    ensures statuses { IfOk result (λ s. IsOneOf (view_statuses view (pace_statuses task.now.pace))
+        (status_code s)) }
     ensures shelf_cause { IsErrOf result Stop.Source → Rose (S.faults shelf.old)
         (S.faults shelf.new) }
     ensures sink_cause { IsErrOf result Stop.Sink → Rose (K.faults sink.old) (K.faults sink.new) }
@@ -150,6 +208,8 @@ pub fn write_view<S: Shelf, K: Sink, F: Fabric>(
     match view {
         View::Report => view_report(alloc, &judged.policy, place, task, shelf, sink, fabric),
         View::Json => view_json(alloc, &judged.policy, place, task, shelf, sink, fabric),
+        View::Summary => view_sums(alloc, Form::Text, judged, place, task, shelf, sink, fabric),
+        View::JsonSummary => view_sums(alloc, Form::Json, judged, place, task, shelf, sink, fabric),
     }
 }
 

@@ -8,7 +8,7 @@ use Rattle.replay_app.specs.Words.{AreLent, WhereTold, file_words}
 use Rattle.block_replay.specs.Output.{IsBlockOutput}
 use Rattle.block_replay.specs.Words.{CanBlockEnd, block_file_words}
 use Rattle.study.specs.Files.{study_files, CanStudyEnd}
-use Rattle.study.specs.Studied.{IsStudied}
+use Rattle.study.specs.Studied.{IsAnswered}
 use Rattle.study.specs.declared.parts.Study.{Study}
 use Rattle.tap_core.specs.Lists.{Entry}
 use Rattle.zovatsemo.specs.Front.{Asked, study_of, run_of, block_of, asked, asked_by, asked_files, words_asked, words_asked_by, form_asked, block_form_asked, study_asked, AnswersAsked, CanEndAsked}
@@ -64,7 +64,7 @@ pub lent_for_run : (lends : List ℕ → Bool) (o : Options) → study_asked o �
 lent_for_run lends o is = subst (LentFor lends) (is_run o is)
 
 pub answered_by_study : (content : List ℕ → Option (List ℕ)) (taps : List Entry) (status : ℕ) (old new : Option (List ℕ)) (o : Options) (wanted : Study) → study_asked o ≡ Some wanted
-    → WhereTold content (study_files wanted) (λ contents. IsGiven (IsStudied wanted contents) status old new)
+    → WhereTold content (study_files wanted) (λ contents. IsAnswered wanted contents status old new)
     → AnswersFor content taps status old new (asked o)
 answered_by_study content taps status old new o wanted is = subst (AnswersFor content taps status old new) (sym (is_study o wanted is))
 

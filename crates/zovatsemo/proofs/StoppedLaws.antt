@@ -1,5 +1,5 @@
 -- A call that stops at once because it is out of memory.
-use Rattle.std.proofs.Common.{rules, ◌≡◌, ℕ, List, Option, inr, ap, subst, ◌∙◌, map, string_bytes, String}
+use Rattle.std.proofs.Common.{rules, ◌≡◌, ℕ, List, Option, inl, inr, ap, subst, ◌∙◌, map, string_bytes, String}
 use Rattle.std.specs.declared.alloc.Global.{Global}
 use Rattle.outside_core.proofs.WrittenLaws.{appended_nothing, prefix_of_nothing}
 use Rattle.front_defs.specs.Options.{words_of}
@@ -12,6 +12,7 @@ use Rattle.block_replay.specs.Output.{IsBlockOutput}
 use Rattle.block_replay.specs.Words.{BlockForm, CanBlockEnd, block_file_words, block_form_in, block_form_of}
 use Rattle.tap_core.specs.Lists.{Entry}
 use Rattle.study.specs.Files.{CanStudyEnd}
+use Rattle.study.specs.Studied.{IsAnswered}
 use Rattle.study.specs.declared.parts.Study.{Study}
 use Rattle.zovatsemo.specs.Front.{form_asked, block_form_asked, Asked, study_of, run_of, block_of, AnswersAsked, CanEndAsked}
 
@@ -52,11 +53,14 @@ block_answered_so content taps status old new given asked same =
     subst P same
 
 -- ---- for all that options ask for
+pub study_nothing : (wanted : Study) (contents : List ℕ → List ℕ) (old : Option (List ℕ)) → IsAnswered wanted contents 10 old old
+study_nothing wanted contents old = inl (given_nothing _ old)
+
 pub study_ends_so : (wanted : Study) → CanStudyEnd wanted 10
 study_ends_so wanted = inr no_memory
 
 pub asked_nothing : (a : Asked) (contents : List ℕ → List ℕ) (taps : List Entry) (old : Option (List ℕ)) → AnswersAsked a contents taps 10 old old
-asked_nothing (study_of wanted) contents taps old = given_nothing _ old
+asked_nothing (study_of wanted) contents taps old = study_nothing wanted contents old
 asked_nothing (run_of form) contents taps old = given_nothing _ old
 asked_nothing (block_of form) contents taps old = given_nothing _ old
 

@@ -18,7 +18,7 @@ use Rattle.replay_app.specs.Words.{Form, form_of, file_words}
 use Rattle.block_replay.specs.Output.{IsBlockOutput}
 use Rattle.block_replay.specs.Words.{BlockForm, calm, CanBlockEnd, block_form_of, block_file_words}
 use Rattle.study.specs.Files.{study_files, CanStudyEnd}
-use Rattle.study.specs.Studied.{IsStudied}
+use Rattle.study.specs.Studied.{IsAnswered}
 use Rattle.study.specs.declared.parts.Drive.{Drive}
 use Rattle.study.specs.declared.parts.Drive.TheVariants.{Script, Link, Forward}
 use Rattle.study.specs.declared.parts.Study.{Study}
@@ -26,10 +26,11 @@ use Rattle.study.specs.declared.parts.View as study
 use Rattle.study.specs.declared.parts.View.TheVariants as studied
 
 -- ---- studies
--- a study has no sums, and no option asks for them
 abbrev pub study_view : View → study.View
+study_view view.Report = studied.Report
 study_view view.Json = studied.Json
-study_view other = studied.Report
+study_view view.Summary = studied.Summary
+study_view view.JsonSummary = studied.JsonSummary
 
 -- a link of this many bytes per second, and bytes for each packet besides its length, if both are in
 -- range
@@ -110,7 +111,7 @@ asked_files (block_of form) = block_file_words form
 
 -- the output for the contents of these files and for taps, with its status
 abbrev pub AnswersAsked : Asked → (List ℕ → List ℕ) → List Entry → ℕ → Option (List ℕ) → Option (List ℕ) → Type 0
-AnswersAsked (study_of wanted) contents taps status old new = IsGiven (IsStudied wanted contents) status old new
+AnswersAsked (study_of wanted) contents taps status old new = IsAnswered wanted contents status old new
 AnswersAsked (run_of form) contents taps status old new = Answers form contents taps status old new
 AnswersAsked (block_of form) contents taps status old new = IsGiven (IsBlockOutput form contents taps) status old new
 
@@ -129,8 +130,8 @@ a_link_of_no_rate = refl
 direct_as_json : (p c e : Bor (List ℕ)) → study_by command.Direct (p ∷ c ∷ e ∷ []) None studied.Json ≡ Some (scripted p None c e studied.Json)
 direct_as_json p c e = refl
 
-replay_as_json : (p t c e : Bor (List ℕ)) → study_by command.Replay (p ∷ t ∷ c ∷ e ∷ []) None studied.Json ≡ Some (scripted p (Some t) c e studied.Json)
-replay_as_json p t c e = refl
+replay_in_sums : (p t c e : Bor (List ℕ)) → study_by command.Replay (p ∷ t ∷ c ∷ e ∷ []) None studied.Summary ≡ Some (scripted p (Some t) c e studied.Summary)
+replay_in_sums p t c e = refl
 
 link_without_a_target : (p c : Bor (List ℕ)) (rate : LinkRate) → study_by command.Link (p ∷ c ∷ []) (Some rate) studied.Report
     ≡ Some (record { policy = p; target = None; capture = c; drive = Link rate; view = studied.Report })

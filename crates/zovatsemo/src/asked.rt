@@ -9,14 +9,15 @@ use front_defs::{Command, Options, has_words};
 use sched_defs::LinkRate;
 use study::{Drive, Study, View};
 
-/// Returns how the outcomes of a study are written. A study has no sums, and no option asks for
-/// them.
+/// Returns how the outcomes of a study are written.
 fn view_of(view: front_defs::View) -> View
     ensures { result ≡ study_view view }
 {
     match view {
+        front_defs::View::Report => View::Report,
         front_defs::View::Json => View::Json,
-        _ => View::Report,
+        front_defs::View::Summary => View::Summary,
+        front_defs::View::JsonSummary => View::JsonSummary,
     }
 }
 

@@ -10,7 +10,7 @@ ghost use Rattle.block_replay.specs.Output.{IsBlockOutput};
 ghost use Rattle.block_replay.specs.Words.{block_file_words, CanBlockEnd};
 ghost use Rattle.front_core.specs.Catching.{told, kept_of, below_of};
 ghost use Rattle.study.specs.Files.{study_files, HasLinkRate, CanStudyEnd};
-ghost use Rattle.study.specs.Studied.{IsStudied};
+ghost use Rattle.study.specs.Studied.{IsAnswered};
 ghost use Rattle.zovatsemo.specs.Front.{form_asked, block_form_asked, words_asked, asked, asked_files, AnswersAsked, CanEndAsked};
 
 use crate::asked::study_asked;
@@ -94,7 +94,7 @@ fn run_study<S: Shelf, K: Sink>(
     requires rate { HasLinkRate wanted.now.drive }
 
     ensures answer { WhereTold (S.content shelf.old) (study_files wanted.now) (λ contents.
-        IsGiven (IsStudied wanted.now contents) result (K.written sink.old) (K.written sink.new)) }
+        IsAnswered wanted.now contents result (K.written sink.old) (K.written sink.new)) }
     ensures statuses { CanStudyEnd wanted.now result }
     ensures shelf_cause { result ≡ 8 → Rose (S.faults shelf.old) (S.faults shelf.new) }
     ensures sink_cause { result ≡ 9 → Rose (K.faults sink.old) (K.faults sink.new) }

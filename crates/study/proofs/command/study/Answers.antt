@@ -1,8 +1,8 @@
-use Rattle.std.proofs.Common.{sym, subst, inr}
-use Rattle.replay_app.specs.Statuses.{IsStop}
-use Rattle.replay_app.proofs.AnswerLaws.{is_stop}
+use Rattle.study.proofs.EndLaws.{answered_ok, answered_err}
 use Rattle.study.proofs.command.study.Goals as goal
 
+pub returns-in-Ok-clause-answer : goal.returns-in-Ok-clause-answer
+returns-in-Ok-clause-answer g c = λ contents told. rw c.code.ensures (answered_ok c.args.study.now contents c.in-Ok.status _ _ (c.in-Ok.ensures.answer contents told))
+
 pub returns-in-Err-clause-answer : goal.returns-in-Err-clause-answer
-returns-in-Err-clause-answer g c = λ contents told.
-    inr (record { stop = subst IsStop (sym c.stop_status.ensures) (is_stop c.in-Err.stop); part = (c.in-Err.ensures.answer contents told).part })
+returns-in-Err-clause-answer g c = λ contents told. rw c.stop_status.ensures (answered_err c.args.study.now contents c.in-Err.stop _ _ (c.in-Err.ensures.answer contents told))

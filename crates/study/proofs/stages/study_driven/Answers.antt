@@ -1,3 +1,4 @@
+use Rattle.std.proofs.Common.{inl}
 use Rattle.study.proofs.stages.study_driven.Goals as goal
 
 pub study_script-requires-clause-lent : goal.study_script-requires-clause-lent
@@ -19,7 +20,7 @@ pub returns-in-Script-clause-answer : goal.returns-in-Script-clause-answer
 returns-in-Script-clause-answer g c = rw c.in-Script.is c.study_script.ensures.answer
 
 pub returns-in-Link-clause-answer : goal.returns-in-Link-clause-answer
-returns-in-Link-clause-answer g c = rw c.in-Link.is (λ contents told. rw told.0 at c.write_view.ensures.answer)
+returns-in-Link-clause-answer g c = rw c.in-Link.is (λ names contents told. rw told.0 at (c.write_view.ensures.answer names))
 
 pub returns-in-Forward-clause-answer : goal.returns-in-Forward-clause-answer
-returns-in-Forward-clause-answer g c = rw c.in-Forward.is (λ contents told. rw told.0 at c.view_departures.ensures.answer)
+returns-in-Forward-clause-answer g c = rw c.in-Forward.is (λ names contents told. inl (rw told.0 at c.view_departures.ensures.answer))

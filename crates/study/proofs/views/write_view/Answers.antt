@@ -1,7 +1,14 @@
+use Rattle.study.proofs.SumLaws.{only_told}
 use Rattle.study.proofs.views.write_view.Goals as goal
 
 pub returns-in-Report-clause-answer : goal.returns-in-Report-clause-answer
-returns-in-Report-clause-answer g c = rw c.in-Report.is c.view_report.ensures.answer
+returns-in-Report-clause-answer g c = λ names. rw c.in-Report.is (only_told _ _ _ _ _ _ c.view_report.ensures.answer)
 
 pub returns-in-Json-clause-answer : goal.returns-in-Json-clause-answer
-returns-in-Json-clause-answer g c = rw c.in-Json.is c.view_json.ensures.answer
+returns-in-Json-clause-answer g c = λ names. rw c.in-Json.is (only_told _ _ _ _ _ _ c.view_json.ensures.answer)
+
+pub returns-in-Summary-clause-answer : goal.returns-in-Summary-clause-answer
+returns-in-Summary-clause-answer g c = rw c.in-Summary.is c.view_sums.ensures.answer
+
+pub returns-in-JsonSummary-clause-answer : goal.returns-in-JsonSummary-clause-answer
+returns-in-JsonSummary-clause-answer g c = rw c.in-JsonSummary.is c.view_sums-in-JsonSummary.ensures.answer

@@ -1,0 +1,9 @@
+use Rattle.outside_core.proofs.KeptLaws.{sink-same}
+use Rattle.outside_core.proofs.WrittenLaws.{appended_nothing}
+use Rattle.study.proofs.sums.put_ending.Goals as goal
+
+pub returns-in-Whole-clause-ok : goal.returns-in-Whole-clause-ok
+returns-in-Whole-clause-ok g c = rw c.in-Whole.is (appended_nothing _)
+
+pub returns-in-Whole-clause-kept : goal.returns-in-Whole-clause-kept
+returns-in-Whole-clause-kept g c = sink-same g.K.Sink.written g.K.Sink.faults c.args.sink.now
