@@ -1,6 +1,7 @@
-"""The JSON lines of a run, made of its report, its capture and the class of each packet by what docs/FORMATS.md says
+"""The JSON lines and the sums of a run, made of its report, its capture and the class of each packet by what docs/FORMATS.md says
 of them: nothing of the program is used.
 """
+import collections
 import json
 import struct
 
@@ -55,3 +56,119 @@ def lines(report, packets, classes, rate=None, overhead=0):
     found = [event_of(words, packets, classes, rate, overhead) for words in shown[:-1]]
     found.append(last_of(shown[-1], [words[0] for words in shown[:-1]]))
     return "".join(json.dumps(one, separators=(",", ":")) + "\n" for one in found)
+
+
+# sums -----------------------------------------------------------------------
+
+Group = collections.namedtuple("Group", "arrived departed dropped queued bytes throughput delays mean jitter most_queued most_queued_bytes")
+
+
+def names_of(policy, statement):
+    """The names that a policy's classes or leaves have, each with its weight."""
+    found = {}
+    for line in policy.splitlines():
+        words = line.split("#")[0].split()
+        if words[:1] == [statement]:
+            found[words[1]] = int(words[words.index("weight") + 1]) if "weight" in words else 1
+    return found
+
+
+def backlogs(events):
+    """The packets and bytes that are queued after each event."""
+    packets = size = 0
+    for event in events:
+        sign = {"arrive": 1, "depart": -1, "drop": 0}[event["kind"]]
+        packets, size = packets + sign, size + sign * event["bytes"]
+        yield packets, size
+
+
+def delays_of(events, packets):
+    """The delays of departures on a link, in their order."""
+    return [max(0, event["start"] - packets[event["packet"] - 1][1]) for event in events if "start" in event]
+
+
+def throughput(events, size):
+    """Bytes a second from the first timestamp to the last finish, if there are any."""
+    finishes = [event["finish"] for event in events if "finish" in event]
+    span = max(finishes) - next(event["timestamp"] for event in events if event["kind"] == "arrive") if finishes else 0
+    return size * 10**9 // span if span > 0 else None
+
+
+def group_of(events, packets):
+    """The sums of a group of packets, from their objects."""
+    arrived, departed, dropped = (sum(event["kind"] == kind for event in events) for kind in ("arrive", "depart", "drop"))
+    size = sum(event["bytes"] for event in events if event["kind"] == "depart")
+    delays = delays_of(events, packets)
+    changes = [abs(one - other) for one, other in zip(delays, delays[1:])]
+    backlog = [(0, 0), *backlogs(events)]
+    return Group(arrived, departed, dropped, arrived - departed, size, throughput(events, size), sorted(delays),
+                 sum(delays) // len(delays) if delays else None, sum(changes) // len(changes) if changes else None,
+                 max(count for count, _ in backlog), max(count for _, count in backlog))
+
+
+def percentile(delays, percent):
+    """By nearest rank: the least delay that this part of all delays doesn't exceed."""
+    return delays[-(-percent * len(delays) // 100) - 1]
+
+
+def five(delays):
+    """The delays that are shown, with their keys in JSON and their words in text."""
+    return [("least", "least", delays[0]), ("median", "median", percentile(delays, 50)), ("p95", "95 %", percentile(delays, 95)),
+            ("p99", "99 %", percentile(delays, 99)), ("greatest", "greatest", delays[-1])]
+
+
+def jain(leaves, weights):
+    """Jain's index in millionths over the leaves with packets, by departed bytes in thousandths of a byte for each weight."""
+    shares = [leaf.bytes * 1000 // max(1, weight) for leaf, weight in zip(leaves, weights) if leaf.arrived or leaf.dropped]
+    under = len(shares) * sum(share * share for share in shares)
+    return sum(shares) ** 2 * 10**6 // under if under else None
+
+
+class Sums:
+    """The sums of a run: of all packets, of each leaf and of each class, and the fairness."""
+
+    def __init__(self, json_lines, packets, policy):
+        events = [event for event in map(json.loads, json_lines.splitlines()) if "packet" in event]
+        leaves, classes = names_of(policy, "leaf"), list(names_of(policy, "class"))
+        of = lambda key, value: group_of([event for event in events if event[key] == value], packets)
+        self.all = group_of(events, packets)
+        self.leaves = [(name, of("leaf", name)) for name in leaves]
+        self.classes = [(name, of("class", number)) for number, name in enumerate(classes, 1)]
+        self.index = jain([leaf for _, leaf in self.leaves], leaves.values())
+
+
+def lines_of(name, group):
+    """The lines of a group."""
+    rate = "" if group.throughput is None else "; %d bytes a second" % group.throughput
+    yield "%s: %d packets departed, %d dropped, %d queued; %d bytes%s" % (name, group.departed, group.dropped, group.queued, group.bytes, rate)
+    if group.delays:
+        jitter = "" if group.jitter is None else "; jitter %d" % group.jitter
+        shown = ", ".join("%s %d" % (words, delay) for _, words, delay in five(group.delays))
+        yield "  delay in ns: %s, mean %d%s" % (shown, group.mean, jitter)
+    yield "  backlog: at most %d packets, at most %d bytes" % (group.most_queued, group.most_queued_bytes)
+
+
+def text_of(sums):
+    """The text of sums."""
+    found = [*lines_of("all", sums.all)]
+    for kind, groups in (("leaf", sums.leaves), ("class", sums.classes)):
+        for name, group in groups:
+            found += lines_of("%s %s" % (kind, name), group)
+    index = "no bytes departed" if sums.index is None else "%d.%06d" % divmod(sums.index, 10**6)
+    return "\n".join([*found, "fairness of the leaves by weight (Jain): " + index, ""])
+
+
+def object_of(group):
+    """The object of a group."""
+    delay = {**{key: value for key, _, value in five(group.delays)}, "mean": group.mean} if group.delays else None
+    return {"arrived": group.arrived, "departed": group.departed, "dropped": group.dropped, "queued": group.queued, "bytes": group.bytes,
+            "throughput": group.throughput, "delay": delay, "jitter": group.jitter, "most_queued": group.most_queued,
+            "most_queued_bytes": group.most_queued_bytes}
+
+
+def json_of(sums):
+    """The JSON object of sums, with a newline."""
+    named = lambda groups: [{"name": name, **object_of(group)} for name, group in groups]
+    found = json.dumps({"all": object_of(sums.all), "leaves": named(sums.leaves), "classes": named(sums.classes)}, separators=(",", ":"))
+    index = "null" if sums.index is None else "%d.%06d" % divmod(sums.index, 10**6)
+    return '%s,"jain":%s}\n' % (found[:-1], index)

@@ -17,5 +17,6 @@ complete -c zovatsemo -s o -l output -r -F -d 'write to a file that doesn'\''t e
 complete -c zovatsemo -l overhead -x -d 'bytes that link and forward add to each packet, 0 to 65535; Ethernet has 24'
 complete -c zovatsemo -s t -l tap -x -a 'bytes order first drops' -d 'one more line at the end of replay: bytes, order, first or drops'
 complete -c zovatsemo -l plain -d 'write the line `fault KIND CODE PLACE` too, and no messages'
+complete -c zovatsemo -l summary -d 'write sums of direct, replay or link instead of events'
 complete -c zovatsemo -s q -l quiet -d 'write no messages'
 complete -c zovatsemo -s V -l version -d 'the version'
