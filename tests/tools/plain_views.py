@@ -73,6 +73,13 @@ def names_of(policy, statement):
     return found
 
 
+def in_tree(policy, name="root"):
+    """The names of the leaves below a node, in the order of the policy's tree."""
+    statements = {words[1]: words for words in (line.split("#")[0].split() for line in policy.splitlines()) if words[:1] in (["leaf"], ["node"])}
+    words = statements[name]
+    return [name] if words[0] == "leaf" else [leaf for child in words[words.index("children") + 1:] for leaf in in_tree(policy, child)]
+
+
 def backlogs(events):
     """The packets and bytes that are queued after each event."""
     packets = size = 0
@@ -129,7 +136,8 @@ class Sums:
 
     def __init__(self, json_lines, packets, policy):
         events = [event for event in map(json.loads, json_lines.splitlines()) if "packet" in event]
-        leaves, classes = names_of(policy, "leaf"), list(names_of(policy, "class"))
+        weights, classes = names_of(policy, "leaf"), list(names_of(policy, "class"))
+        leaves = {name: weights[name] for name in in_tree(policy)}
         of = lambda key, value: group_of([event for event in events if event[key] == value], packets)
         self.all = group_of(events, packets)
         self.leaves = [(name, of("leaf", name)) for name in leaves]
