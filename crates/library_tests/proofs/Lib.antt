@@ -1,0 +1,4 @@
+pub mod EventTurns
+pub mod Exchanges
+pub mod Roots
+pub mod Rounds

@@ -14,7 +14,7 @@ use Rattle.sched_core.specs.declared.scheduler.Arrival.{Arrival}
 use Rattle.sched_core.specs.declared.scheduler.Arrival.TheVariants.{Pushed, Dropped}
 use Rattle.sched_core.specs.Arrivals.{pushes_of}
 use Rattle.sched_core.specs.Standing.{StandForOne, ForEachState}
-use Rattle.run_tests.proofs.EventTurns.{stands_arrived}
+use Rattle.library_tests.proofs.EventTurns.{stands_arrived}
 
 -- a packet can arrive if all queued packets have lower numbers
 pub can_come : (policy : Policy) (s : SourceState) (p : Packet) → IsSendable policy p → IsHeldBelow p.number s.held → CanArrive policy s p

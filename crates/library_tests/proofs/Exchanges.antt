@@ -36,7 +36,7 @@ use Rattle.sched_embedded.specs.declared.embedded.Embedded.{Embedded}
 use Rattle.sched_embedded.specs.Embedded.{EmbeddedStands, origin_of}
 use Rattle.target_core.specs.declared.target.Target.{Target}
 use Rattle.embed_core.specs.Range.{levels_of}
-use Rattle.run_tests.specs.Filled.{IsPlain, IsFilled}
+use Rattle.library_tests.specs.Filled.{IsPlain, IsFilled}
 
 -- a tree without levels below its root, in which a class has a leaf
 alone : (tree : Tree Node) (cs : List Class) → depth tree ≡ 0 → 0 < length cs → AllByRecursion (IsClassReady tree) cs

@@ -1,7 +1,7 @@
 use Rattle.std.proofs.Common.{◌≡◌, ◌≤◌, IsTrue}
 use Rattle.tree_defs.specs.Tree.{depth}
 use Rattle.sched_core.specs.Standing.{StandForOne}
-use Rattle.run_tests.proofs.fabrics.depart_three.Given as goal
+use Rattle.library_tests.proofs.fabrics.depart_three.Given as goal
 
 abbrev pub invariant-loop-event : goal.invariant-loop-event
 invariant-loop-event g l =

@@ -1,7 +1,7 @@
 use Rattle.std.proofs.Common.{◌≡◌, ◌≤◌}
 use Rattle.sched_defs.specs.Numbered.{IsHeldBelow}
 use Rattle.sched_core.specs.Standing.{StandForOne}
-use Rattle.run_tests.proofs.memory.arrive_round.Given as goal
+use Rattle.library_tests.proofs.memory.arrive_round.Given as goal
 
 abbrev pub invariant-loop-number : goal.invariant-loop-number
 invariant-loop-number g l =

@@ -1,6 +1,6 @@
 use Rattle.std.proofs.Common.{sym, ◌∙◌}
-use Rattle.run_tests.proofs.Roots.{has_a_node, none_is, unlimited_root}
-use Rattle.run_tests.proofs.fabrics.is_root_limited.Goals as goal
+use Rattle.library_tests.proofs.Roots.{has_a_node, none_is, unlimited_root}
+use Rattle.library_tests.proofs.fabrics.is_root_limited.Goals as goal
 
 pub limit-requires : goal.limit-requires
 limit-requires c = record { there = has_a_node c.args.policy.now.policy.tree }

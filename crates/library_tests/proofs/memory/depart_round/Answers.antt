@@ -1,6 +1,6 @@
 use Rattle.std.proofs.Common.{arith, ◌∙◌}
-use Rattle.run_tests.proofs.EventTurns.{asked, left}
-use Rattle.run_tests.proofs.memory.depart_round.Goals as goal
+use Rattle.library_tests.proofs.EventTurns.{asked, left}
+use Rattle.library_tests.proofs.memory.depart_round.Goals as goal
 
 pub depart-requires-clause-stands : goal.depart-requires-clause-stands
 depart-requires-clause-stands g c =

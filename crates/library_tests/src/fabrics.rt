@@ -13,7 +13,7 @@ ghost use Rattle.sched_core.specs.Standing.{StandForOne};
 ghost use Rattle.sched_core.specs.PolicyState.{policy_in};
 ghost use Rattle.embed_core.specs.Range.{levels_of};
 ghost use Rattle.sched_embedded.specs.Embedded.{EmbeddedStands, origin_of};
-ghost use Rattle.run_tests.specs.Filled.{IsFilled, IsPlain};
+ghost use Rattle.library_tests.specs.Filled.{IsFilled, IsPlain};
 
 use crate::packets::policy_of;
 use embed_core::{Target, embed, read_target};

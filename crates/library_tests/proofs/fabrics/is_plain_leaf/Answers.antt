@@ -1,8 +1,8 @@
 use Rattle.std.proofs.Common.{ap, ◌∙◌, sym, arith}
 use Rattle.rank_defs.specs.Programs.{Program}
-use Rattle.run_tests.proofs.Roots.{has_a_node, of_root}
-use Rattle.run_tests.proofs.Exchanges.{plain_leaf}
-use Rattle.run_tests.proofs.fabrics.is_plain_leaf.Goals as goal
+use Rattle.library_tests.proofs.Roots.{has_a_node, of_root}
+use Rattle.library_tests.proofs.Exchanges.{plain_leaf}
+use Rattle.library_tests.proofs.fabrics.is_plain_leaf.Goals as goal
 
 pub checked-requires : goal.checked-requires
 checked-requires c = record { there = has_a_node c.args.policy.now.policy.tree }

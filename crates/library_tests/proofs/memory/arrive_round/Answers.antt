@@ -6,9 +6,9 @@ use Rattle.sched_defs.specs.SourceState.{start}
 use Rattle.sched_defs.specs.Events.{CanArrive}
 use Rattle.sched_defs.specs.Numbered.{IsSendable}
 use Rattle.sched_defs.proofs.Soundness.{sound_start}
-use Rattle.run_tests.proofs.EventTurns.{asked}
-use Rattle.run_tests.proofs.Rounds.{can_come, stands_tried, one_push_at_most}
-use Rattle.run_tests.proofs.memory.arrive_round.Goals as goal
+use Rattle.library_tests.proofs.EventTurns.{asked}
+use Rattle.library_tests.proofs.Rounds.{can_come, stands_tried, one_push_at_most}
+use Rattle.library_tests.proofs.memory.arrive_round.Goals as goal
 
 abbrev packet : ℕ → Packet
 packet number = record { number = number; class = 0; len = 4; moment = 5; flow = record { version = 0; source = 0; target = 0; proto = 0; sport = 0; dport = 0 } }

@@ -4,8 +4,8 @@ use Rattle.packet_defs.specs.declared.packet.Packet.{Packet}
 use Rattle.policy_defs.specs.Policy.{Policy}
 use Rattle.policy_defs.specs.Accepted.{IsAccepted}
 use Rattle.sched_defs.specs.Numbered.{IsSendable}
-use Rattle.run_tests.proofs.Exchanges.{both_come, stands_exchanged}
-use Rattle.run_tests.proofs.fabrics.exchange.Goals as goal
+use Rattle.library_tests.proofs.Exchanges.{both_come, stands_exchanged}
+use Rattle.library_tests.proofs.fabrics.exchange.Goals as goal
 
 abbrev no_flow : FlowKey
 no_flow = record { version = 0; source = 0; target = 0; proto = 0; sport = 0; dport = 0 }

@@ -2,8 +2,8 @@ use Rattle.std.proofs.Common.{◌∙◌, arith}
 use Rattle.sched_defs.specs.SourceState.{start, arrived}
 use Rattle.sched_defs.specs.Events.{CanArrive}
 use Rattle.sched_defs.proofs.Soundness.{sound_start, sound_arrived}
-use Rattle.run_tests.proofs.EventTurns.{asked, stands_arrived, one_push}
-use Rattle.run_tests.proofs.fabrics.arrive_both.Goals as goal
+use Rattle.library_tests.proofs.EventTurns.{asked, stands_arrived, one_push}
+use Rattle.library_tests.proofs.fabrics.arrive_both.Goals as goal
 
 pub arrive-requires-clause-stands : goal.arrive-requires-clause-stands
 arrive-requires-clause-stands g c =

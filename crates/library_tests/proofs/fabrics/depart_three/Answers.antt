@@ -1,6 +1,6 @@
 use Rattle.std.proofs.Common.{arith, ◌∙◌}
-use Rattle.run_tests.proofs.EventTurns.{left}
-use Rattle.run_tests.proofs.fabrics.depart_three.Goals as goal
+use Rattle.library_tests.proofs.EventTurns.{left}
+use Rattle.library_tests.proofs.fabrics.depart_three.Goals as goal
 
 pub loop-event-preserved : goal.loop-event-preserved
 loop-event-preserved g c =

@@ -1,4 +1,0 @@
-pub mod EventTurns
-pub mod Exchanges
-pub mod Roots
-pub mod Rounds
