@@ -1,0 +1,15 @@
+pub mod BitLaws
+pub mod MemoryLaws
+pub mod StoreLaws
+pub mod UseLaws
+pub mod QueueLaws
+pub mod Lists
+pub mod NameLaws
+pub mod SizeLaws
+pub mod PlaceLaws
+pub mod OrderLaws
+pub mod OneSizes
+pub mod PathWalks
+pub mod RunSizes
+pub mod LineLists
+pub mod SizesOfRuns

@@ -1,0 +1,10 @@
+use Rattle.std.proofs.Common.{◌≡◌, ◌≤◌, ◌+◌, ◌-◌, ◌^◌, min, drop}
+use Rattle.std.specs.List.{sum_by}
+use Rattle.size_core.specs.Memory.{queue_bits}
+use Rattle.size_core.proofs.memory.memory_of.Given as goal
+
+abbrev pub invariant-loop-node : goal.invariant-loop-node
+invariant-loop-node l = record {
+  fits : l.bits ≤ 2 ^ 128 - 1;
+  same : min (sum_by (queue_bits l.widths) l.nodes) (2 ^ 128 - 1) ≡ min (l.bits + sum_by (queue_bits l.widths) (drop l.node-index l.nodes)) (2 ^ 128 - 1);
+}

@@ -1,0 +1,20 @@
+use Rattle.std.proofs.Common.{◌≡◌, ℕ, List, map, sym, ap, ◌∙◌, subst}
+use Rattle.std.specs.Prelude.{slice_index}
+use Rattle.tree_defs.specs.Tree.{Address}
+use Rattle.embed_defs.specs.Images.{image_map}
+use Rattle.embed_core.specs.Lanes.{IsLaneTo}
+use Rattle.embed_core.proofs.LaneLifts.{lane-lift}
+use Rattle.size_core.specs.Paths.{IsPath}
+use Rattle.size_core.proofs.places.path_to.Goals as goal
+
+pub returns-clause-path : goal.returns-clause-path
+returns-clause-path c =
+    let lane : IsLaneTo c.args.map.now c.args.leaf.now c.in_ok-lane.lane = c.in_ok-lane.ensures.lane in
+    let steps = c.in_ok-steps.steps.items in
+    let image : c.image.result.now ≡ image_map c.args.map.now c.args.leaf.now = c.image.ensures.image ∙ lane.image in
+    record {
+      steps = steps;
+      path = subst (λ (z : List ℕ). IsPath c.hops_of.new.known.keys (image_map c.args.map.now c.args.leaf.now) z c.in_ok-hops.hops.items) c.deref.ensures.value
+          (subst (λ (a : Address). IsPath c.hops_of.new.known.keys a c.deref.result.now c.in_ok-hops.hops.items) image c.in_ok-hops.ensures.path);
+      lifts = λ ranks n. ap (λ (z : List ℕ). map (slice_index ranks) z) c.in_ok-steps.ensures.steps ∙ lane-lift c.args.map.now c.args.leaf.now c.in_ok-lane.lane lane ranks n;
+    }

@@ -1,0 +1,22 @@
+use Rattle.std.proofs.Common.{◌≡◌, ◌+◌, ◌<◌, ℕ, List, length, map, sym, ap, ◌∙◌, subst, arith}
+use Rattle.std.proofs.lemmas.List.{with_items_is}
+use Rattle.std.proofs.lemmas.List.FromFn.{length-range_with_len}
+use Rattle.std.specs.Prelude.{slice_index}
+use Rattle.std.specs.List.{AllByRecursion, range_with_len}
+use Rattle.embed_core.proofs.LaneLifts.{lane-lift, lane-within}
+use Rattle.size_core.proofs.places.steps_of.Goals as goal
+
+pub lift-requires-clause-within : goal.lift-requires-clause-within
+lift-requires-clause-within c =
+    let ranks : c.deref.result.now ≡ range_with_len 0 (length c.args.leaf.now + 1) = c.deref.ensures.value ∙ c.in_ok-ranks.ensures.numbers in
+    let n : length c.args.leaf.now + 1 ≡ length c.deref.result.now = sym (ap (λ (z : List ℕ). length z) ranks ∙ length-range_with_len 0 (length c.args.leaf.now + 1)) in
+    subst (λ (k : ℕ). AllByRecursion (λ step. step < k) c.args.lane.now.steps.items) n (lane-within c.args.map.now c.args.leaf.now c.args.lane.now c.requires.lane)
+
+pub returns-clause-steps : goal.returns-clause-steps
+returns-clause-steps c =
+    let ranks : c.deref.result.now ≡ range_with_len 0 (length c.args.leaf.now + 1) = c.deref.ensures.value ∙ c.in_ok-ranks.ensures.numbers in
+    let m : length c.lift.new.lifted ≡ length c.in_ok-steps.steps.items = c.lift.auto.lifted ∙ ap (λ (z : List ℕ). length z) c.deref_mut.ensures.value in
+    let n : length c.lift.new.lifted ≡ c.in_ok-steps.steps.len = omega (arith, m, c.in_ok-steps.steps.ok.0) in
+    with_items_is c.in_ok-steps.steps c.lift.new.lifted n ∙ c.lift.ensures.lifted
+    ∙ ap (λ (z : List ℕ). map (slice_index z) c.args.lane.now.steps.items) ranks
+    ∙ lane-lift c.args.map.now c.args.leaf.now c.args.lane.now c.requires.lane (range_with_len 0 (length c.args.leaf.now + 1)) (length-range_with_len 0 (length c.args.leaf.now + 1)) ∙ sym c.requires.lane.steps

@@ -1,0 +1,13 @@
+use Rattle.std.proofs.Common.{◌≡◌, ◌<◌, ◌≤◌, ◌^◌, ℕ, nat_lt, nat_le, false, Some, ap, sym, ◌∙◌, arith, rules}
+use Rattle.std.proofs.lemmas.Bool.{lt-leb}
+use Rattle.std.proofs.Math.Nat.{pow-le-pow_right}
+use Rattle.std.proofs.lemmas.Bool.Decides.{nat_tests}
+use Rattle.size_core.specs.Limits.{is_wide}
+use Rattle.size_core.proofs.queues.is_wide.Goals as goal
+
+pub returns-else-bits-lt64 : goal.returns-else-bits-lt64
+returns-else-bits-lt64 c =
+    let up : 2 ^ 64 ≤ 2 ^ c.in-Some.bits = pow-le-pow_right (omega arith) c.if-bits-lt64.false in
+    let below : c.args.rank < 2 ^ c.in-Some.bits = omega (arith, c.ranges.rank.fits, up) in
+    let no : nat_lt c.in-Some.bits 64 ≡ false = grind (arith, nat_tests, c.if-bits-lt64.false) in
+    no ∙ sym (lt-leb (2 ^ c.in-Some.bits) c.args.rank below) ∙ ap (λ o. is_wide o c.args.rank) (sym c.in-Some.is)

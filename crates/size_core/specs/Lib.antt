@@ -1,0 +1,17 @@
+pub mod Limits
+pub mod Stores
+pub mod Use
+pub mod Paths
+pub mod Places
+pub mod Sizes
+pub mod Names
+pub mod Hops
+pub mod Watching
+pub mod Results
+pub mod JoinedUses
+pub mod Recording
+pub mod Laws
+pub mod Numbers
+pub mod Memory
+pub mod Text
+pub mod Json
