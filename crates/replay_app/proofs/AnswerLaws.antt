@@ -13,7 +13,7 @@ use Rattle.replay_app.specs.Scripts.{ending_status}
 use Rattle.replay_app.specs.Statuses.{IsOneOf, IsRefusal, IsStop, run_statuses, pace_statuses, paced_statuses, forward_statuses, run_status, forward_status, status_code}
 use Rattle.replay_app.specs.Stops.{stop_status}
 use Rattle.replay_app.specs.declared.status.Status.TheVariants as status
-use Rattle.replay_app.specs.declared.status.Status.TheVariants.{Done, NoForm, BadPolicy, BadTarget, NoRoom, BadScript, BadTree, BadMap, LateStart, OtherLink}
+use Rattle.replay_app.specs.declared.status.Status.TheVariants.{Done, NoForm, BadPolicy, BadTarget, NoRoom, BadScript, BadTree, BadMap, LateStart, OtherLink, OverLimit}
 use Rattle.outside_core.specs.declared.stop.Stop.TheVariants.{Source, Sink, Memory}
 use Rattle.replay_app.specs.declared.status.Status.{Status}
 use Rattle.outside_core.specs.declared.stop.Stop.{Stop}
@@ -110,6 +110,7 @@ apart BadTree = inr (omega arith)
 apart BadMap = inr (omega arith)
 apart LateStart = inr (omega arith)
 apart OtherLink = inr (omega arith)
+apart OverLimit = inl (omega arith)
 
 outside : (n : ℕ) → (n < 8) ⊎ (10 < n) → IsStop n → ⊥
 outside n (inl low) (inl e) = omega (arith, low, e)

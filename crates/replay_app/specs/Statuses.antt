@@ -10,7 +10,7 @@ use Rattle.sched_run.specs.declared.pace.Pace.{Pace}
 use Rattle.sched_run.specs.declared.pace.Pace.TheVariants as pace
 use Rattle.replay_app.specs.Words.{Pacing, script, link, forward, Form, replay, check, plan, direct, soak, via, no_form}
 use Rattle.replay_app.specs.declared.status.Status.{Status}
-use Rattle.replay_app.specs.declared.status.Status.TheVariants.{Done, NoForm, BadPolicy, BadTarget, NoRoom, BadScript, BadCapture, BadTree, BadMap, LateStart, OtherLink}
+use Rattle.replay_app.specs.declared.status.Status.TheVariants.{Done, NoForm, BadPolicy, BadTarget, NoRoom, BadScript, BadCapture, BadTree, BadMap, LateStart, OtherLink, OverLimit}
 
 abbrev pub status_code : Status → ℕ
 status_code Done = 0
@@ -24,6 +24,7 @@ status_code BadTree = 12
 status_code BadMap = 13
 status_code LateStart = 14
 status_code OtherLink = 15
+status_code OverLimit = 1
 
 -- the status if an input of this kind is rejected
 abbrev pub kind_status : FaultKind → Status

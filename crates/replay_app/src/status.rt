@@ -31,6 +31,8 @@ pub enum Status {
     LateStart,
     /// A packet has another link type than the first.
     OtherLink,
+    /// A queue passed a limit. No run of `run` ends so.
+    OverLimit,
 }
 
 impl Status {
@@ -50,6 +52,7 @@ impl Status {
             Status::BadMap => 13,
             Status::LateStart => 14,
             Status::OtherLink => 15,
+            Status::OverLimit => 1,
         }
     }
 
