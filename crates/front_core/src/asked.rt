@@ -1,12 +1,12 @@
 //! The request that a command line makes.
 use crate::mistake::Mistake;
-use crate::names::{TAPS, argument_of, command_named, count_of, least_of, place_in_form};
 use crate::scan::{Scan, tell_apart};
-use events_core::MOST_OVERHEAD;
-use front_defs::{Command, Options, RateFault, View, overhead_in, rate_in};
+use front_defs::{
+    Command, Options, Range, RateFault, Setting, Sizes, TAPS, View, Widths, argument_of,
+    command_named, count_of, least_of, number_in, place_in_form, rate_in,
+};
 use std::alloc::Global;
 use std::path::Path;
-use text_core::decimal;
 
 /// The greatest seed of a load.
 const MOST_SEED: u64 = (1 << 62) - 1;
@@ -37,9 +37,13 @@ pub enum Asked<'a> {
 /// Checks that an argument of a load is a whole number of at most `most`. `place` is its index among
 /// the arguments.
 fn see_number<'a>(place: usize, word: &'a str, most: u64) -> Result<(), Mistake<'a>> {
-    match decimal(word.as_bytes()) {
-        Some(number) if number <= most => Ok(()),
-        _ => Err(Mistake::NoNumber(Command::Soak, argument_of(Command::Soak, place), word, most)),
+    let range = Range { least: 0, most };
+    match number_in(word.as_bytes(), range) {
+        Some(_) => Ok(()),
+        None => {
+            let name = argument_of(Command::Soak, place);
+            Err(Mistake::NoNumber(Command::Soak, name, word, range))
+        }
     }
 }
 
@@ -98,16 +102,22 @@ fn missing_place(command: Command, arguments: &[&str]) -> usize {
     place_in_form(command, arguments.len(), place)
 }
 
-/// Checks that a command has the right number of arguments, and that none is empty.
-fn see_arguments<'a>(command: Command, arguments: &[&'a str]) -> Result<(), Mistake<'a>> {
+/// Checks that a command has the right number of arguments, and that none is empty. `has_rate` says
+/// whether there is the option `--rate`.
+fn see_arguments<'a>(
+    command: Command,
+    has_rate: bool,
+    arguments: &[&'a str],
+) -> Result<(), Mistake<'a>> {
     if let Some(place) = arguments.iter().position(|word| word.is_empty()) {
         let place = place_in_form(command, arguments.len(), place);
         return Err(Mistake::Empty(command, place));
     }
-    if arguments.len() < least_of(command) {
+    if arguments.len() < least_of(command, has_rate) {
         return Err(Mistake::Missing(command, missing_place(command, arguments)));
     }
-    match arguments.get(count_of(command)) {
+    match arguments.get(count_of(command, has_rate)) {
+        Some(word) if has_rate && arguments.len() == 4 => Err(Mistake::ScriptAndRate(word)),
         Some(word) => Err(Mistake::Unexpected(command, word)),
         None => Ok(()),
     }
@@ -130,54 +140,127 @@ fn is_plain_rate(word: &str) -> bool {
     word.as_bytes().iter().all(|byte| byte.is_ascii_digit())
 }
 
-/// Removes the rate of a link, which is the last argument, and parses it. Under `--plain` it has no
-/// unit.
-fn take_rate<'a>(
-    command: Command,
-    plain: bool,
-    arguments: &mut Vec<&'a str>,
-) -> Result<Option<u64>, Mistake<'a>> {
-    if !command.has_link() {
-        return Ok(None);
-    }
-    let Some(word) = arguments.pop() else {
-        return Err(Mistake::Missing(command, 3));
-    };
+/// Parses a rate. Under `--plain` it has no unit.
+fn rate_of<'a>(command: Command, plain: bool, word: &'a str) -> Result<u64, Mistake<'a>> {
     if plain && !is_plain_rate(word) {
         return Err(Mistake::NoRate(command, word, RateFault::NoUnit));
     }
     match rate_in(word.as_bytes()) {
-        Ok(rate) => Ok(Some(rate)),
+        Ok(rate) => Ok(rate),
         Err(fault) => Err(Mistake::NoRate(command, word, fault)),
     }
 }
 
-/// Parses the bytes that a link takes for each packet besides its length.
-fn take_overhead<'a>(command: Command, word: Option<&'a str>) -> Result<u32, Mistake<'a>> {
-    let Some(word) = word else {
-        return Ok(0);
+/// Removes the rate of a link, which is the last argument, and parses it, or parses the option's
+/// value.
+fn take_rate<'a>(command: Command, scan: &mut Scan<'a>) -> Result<Option<u64>, Mistake<'a>> {
+    let word = if command.has_link() {
+        let Some(word) = scan.arguments.pop() else {
+            return Err(Mistake::Missing(command, 3));
+        };
+        Some(word)
+    } else {
+        scan.word_of(Setting::Rate)
     };
-    match overhead_in(word.as_bytes()) {
-        Some(bytes) => Ok(bytes),
-        None => Err(Mistake::NoNumber(command, "BYTES", word, MOST_OVERHEAD as u64)),
+    match word {
+        Some(word) => Ok(Some(rate_of(command, scan.plain, word)?)),
+        None => Ok(None),
     }
 }
 
-/// Returns whether a command can write events as JSON lines, and sums.
-fn has_views(command: Command) -> bool {
-    matches!(command, Command::Direct | Command::Replay | Command::Link)
+/// Parses the number of an option, if it is given.
+fn number_of<'a>(
+    command: Command,
+    scan: &Scan<'a>,
+    setting: Setting,
+) -> Result<Option<u64>, Mistake<'a>> {
+    let Some(word) = scan.word_of(setting) else {
+        return Ok(None);
+    };
+    let range = setting.range();
+    match number_in(word.as_bytes(), range) {
+        Some(number) => Ok(Some(number)),
+        None => Err(Mistake::NoNumber(command, setting.name(), word, range)),
+    }
 }
 
-/// Checks that the command has the options for a link's overhead, for events and for sums, and that
-/// there are no taps with the latter.
-fn see_views<'a>(command: Command, scan: &Scan<'a>) -> Result<(), Mistake<'a>> {
-    if scan.overhead.is_some() && !command.has_link() {
-        return Err(Mistake::NoOverhead(command));
+/// Parses the number of an option whose range ends below 2^32, if it is given.
+fn small_number_of<'a>(
+    command: Command,
+    scan: &Scan<'a>,
+    setting: Setting,
+) -> Result<Option<u32>, Mistake<'a>> {
+    match number_of(command, scan, setting)? {
+        Some(number) => Ok(u32::try_from(number).ok()),
+        None => Ok(None),
     }
+}
+
+/// Returns both widths, if both are given.
+fn widths_of(rank: Option<u32>, entry: Option<u32>) -> Option<Widths> {
+    Some(Widths {
+        rank: rank?,
+        entry: entry?,
+    })
+}
+
+/// Parses the limits and widths of `size`.
+fn sizes_of<'a>(command: Command, scan: &Scan<'a>) -> Result<Sizes, Mistake<'a>> {
+    let rank = small_number_of(command, scan, Setting::RankBits)?;
+    let entry = small_number_of(command, scan, Setting::EntryBits)?;
+    let entries = number_of(command, scan, Setting::LimitEntries)?;
+    let bits = small_number_of(command, scan, Setting::LimitRankBits)?;
+    Ok(Sizes {
+        entries,
+        bits,
+        widths: widths_of(rank, entry),
+    })
+}
+
+/// Checks that an option is given only with another one.
+fn see_pair<'a>(
+    command: Command,
+    scan: &Scan<'a>,
+    setting: Setting,
+    other: Setting,
+) -> Result<(), Mistake<'a>> {
+    if scan.word_of(setting).is_some() && scan.word_of(other).is_none() {
+        return Err(Mistake::SettingAlone(command, setting, other));
+    }
+    Ok(())
+}
+
+/// Checks that the command has the options for numbers that are given, and that none is missing.
+fn see_settings<'a>(command: Command, scan: &Scan<'a>) -> Result<(), Mistake<'a>> {
+    for given in &scan.settings {
+        if !given.setting.is_of(command) {
+            return Err(Mistake::NoSetting(command, given.setting));
+        }
+    }
+    if !command.has_link() {
+        see_pair(command, scan, Setting::Overhead, Setting::Rate)?;
+    }
+    see_pair(command, scan, Setting::RankBits, Setting::EntryBits)?;
+    see_pair(command, scan, Setting::EntryBits, Setting::RankBits)
+}
+
+/// Returns whether a command can write its results in this form: events as JSON lines, and sums.
+/// `size` has JSON alone.
+fn has_view(command: Command, view: View) -> bool {
+    match command {
+        Command::Direct | Command::Replay | Command::Link => true,
+        Command::Size => view == View::Json,
+        _ => false,
+    }
+}
+
+/// Checks that the command has the option for events and sums that is given, and that there are no
+/// taps with it.
+fn see_view<'a>(command: Command, scan: &Scan<'a>) -> Result<(), Mistake<'a>> {
     let Some(view) = scan.view else {
         return Ok(());
     };
-    if !has_views(command) {
+    if !has_view(command, view) {
         return Err(Mistake::NoView(command, view));
     }
     if !scan.taps.is_empty() {
@@ -209,9 +292,11 @@ fn see_command<'a>(command: Command, scan: &mut Scan<'a>) -> Result<(), Mistake<
     } else if !scan.taps.is_empty() {
         return Err(Mistake::NoTaps(command));
     }
-    see_views(command, scan)?;
-    see_arguments(command, &scan.arguments)?;
-    if scan.block && scan.arguments.len() < count_of(command) {
+    see_settings(command, scan)?;
+    see_view(command, scan)?;
+    let has_rate = scan.word_of(Setting::Rate).is_some();
+    see_arguments(command, has_rate, &scan.arguments)?;
+    if scan.block && scan.arguments.len() < count_of(command, has_rate) {
         return Err(Mistake::BlockWithoutTarget(command));
     }
     see_taps(&scan.taps)?;
@@ -225,8 +310,9 @@ fn see_command<'a>(command: Command, scan: &mut Scan<'a>) -> Result<(), Mistake<
 /// about rank stores, with or without `--block`.
 fn request_of<'a>(command: Command, mut scan: Scan<'a>) -> Result<Request<'a>, Mistake<'a>> {
     see_command(command, &mut scan)?;
-    let rate = take_rate(command, scan.plain, &mut scan.arguments)?;
-    let overhead = take_overhead(command, scan.overhead)?;
+    let rate = take_rate(command, &mut scan)?;
+    let overhead = small_number_of(command, &scan, Setting::Overhead)?.unwrap_or(0);
+    let sizes = sizes_of(command, &scan)?;
     let output = output_of(scan.output);
     see_output(&scan.arguments, output)?;
     let Scan {
@@ -244,6 +330,7 @@ fn request_of<'a>(command: Command, mut scan: Scan<'a>) -> Result<Request<'a>, M
         rate,
         overhead,
         view: view.unwrap_or(View::Report),
+        sizes,
         taps,
         block: block || command == Command::Calm,
         plain,

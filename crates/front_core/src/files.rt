@@ -8,7 +8,7 @@ pub fn file_of(options: &Options<'_>, kind: FaultKind) -> Option<usize> {
         (FaultKind::Policy, _) => 0,
         (FaultKind::Target | FaultKind::Size, Command::Via) => 3,
         (FaultKind::Target | FaultKind::Size, _) => 1,
-        (FaultKind::Script, Command::Replay) => 3,
+        (FaultKind::Script, Command::Replay | Command::Size) => 3,
         (FaultKind::Script, Command::Direct) => 2,
         (FaultKind::Script, Command::Via) => 5,
         (FaultKind::Capture, Command::Direct) => 1,
@@ -38,7 +38,7 @@ pub fn policy_of<'a>(options: &Options<'a>) -> Option<&'a str> {
 pub fn capture_of<'a>(options: &Options<'a>) -> Option<&'a str> {
     match options.command {
         Command::Link | Command::Forward if is_own(options) => named(options, 1),
-        Command::Replay | Command::Link | Command::Forward => named(options, 2),
+        Command::Replay | Command::Link | Command::Forward | Command::Size => named(options, 2),
         Command::Direct => named(options, 1),
         Command::Via => named(options, 4),
         _ => None,
@@ -49,17 +49,20 @@ pub fn capture_of<'a>(options: &Options<'a>) -> Option<&'a str> {
 pub fn target_of<'a>(options: &Options<'a>) -> Option<&'a str> {
     match options.command {
         Command::Link | Command::Forward if is_own(options) => None,
-        Command::Plan | Command::Replay | Command::Link | Command::Forward => named(options, 1),
+        Command::Plan | Command::Replay | Command::Link | Command::Forward | Command::Size => named(
+            options, 1,
+        ),
         _ => None,
     }
 }
 
 /// Returns the index of the file that a command reads at this turn, both counted from 0. A script
 /// is read before its capture.
-pub fn file_read_at(command: Command, turn: usize) -> usize {
-    match (command, turn) {
-        (Command::Replay, 2) => 3,
-        (Command::Replay, 3) => 2,
+pub fn file_read_at(options: &Options<'_>, turn: usize) -> usize {
+    match (options.command, turn) {
+        (Command::Size, 2) if options.rate.is_some() => 2,
+        (Command::Replay | Command::Size, 2) => 3,
+        (Command::Replay | Command::Size, 3) => 2,
         (Command::Direct, 1) => 2,
         (Command::Direct, 2) => 1,
         (Command::Via, 4) => 5,

@@ -1,5 +1,5 @@
 //! Mistakes in a command line.
-use front_defs::{Command, RateFault, View};
+use front_defs::{Command, Range, RateFault, Setting, View};
 use std::alloc::{AllocError, AllocFailed};
 
 /// A mistake in a command line.
@@ -39,12 +39,16 @@ pub enum Mistake<'a> {
     NoBlock(Command),
     /// This command runs on rank stores only through a target, and none is given.
     BlockWithoutTarget(Command),
-    /// The argument or value of this name is not a whole number up to this limit.
-    NoNumber(Command, &'static str, &'a str, u64),
-    /// This command has no link, and so no overhead.
-    NoOverhead(Command),
-    /// This overhead is a second one.
-    OverheadTwice(&'a str),
+    /// The argument or the value of the option with this name is not a whole number in this range.
+    NoNumber(Command, &'static str, &'a str, Range),
+    /// This command doesn't have this option.
+    NoSetting(Command, Setting),
+    /// This value of an option is a second one.
+    SettingTwice(Setting, &'a str),
+    /// The first option has an effect only with the second one, which isn't given.
+    SettingAlone(Command, Setting, Setting),
+    /// Both this script and a rate are given.
+    ScriptAndRate(&'a str),
     /// This command doesn't have this option for events or sums.
     NoView(Command, View),
     /// Two of the options for events and sums are given.

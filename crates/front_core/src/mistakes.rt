@@ -2,8 +2,10 @@
 ghost use Rattle.std.specs.Prelude.{◌≤◌, length};
 
 use crate::mistake::Mistake;
-use crate::names::{COMMANDS, OPTIONS, TAPS, argument_of, form_of, option_of};
-use front_defs::{Command, RateFault, View};
+use front_defs::{
+    COMMANDS, Command, OPTIONS, Range, RateFault, Setting, TAPS, View, argument_of, form_of,
+    option_of,
+};
 use front_forms::{nearest, say, say_around, say_names, say_short, say_thousands};
 use std::alloc::{AllocError, Global};
 
@@ -87,26 +89,56 @@ fn say_no_number(
     into: &mut Vec<u8>,
     name: &str,
     word: &str,
-    most: u64,
+    range: Range,
 ) -> Result<(), AllocError> {
-    say(into, "expected a whole number from 0 to ")?;
-    say_thousands(alloc, into, most)?;
+    say(into, "expected a whole number from ")?;
+    say_thousands(alloc, into, range.least)?;
+    say(into, " to ")?;
+    say_thousands(alloc, into, range.most)?;
     say_around(into, " for ", name, ", found ")?;
     say_short(into, word)
 }
 
-/// Returns the same parts for a mistake about the options for links, events and sums.
+/// Appends that an option is given without another one that it needs.
+fn say_alone(into: &mut Vec<u8>, setting: Setting, other: Setting) -> Result<(), AllocError> {
+    say_around(into, "expected ", other.name(), "")?;
+    say_around(into, " with ", setting.name(), ", found none")
+}
+
+/// Appends that a command doesn't have an option, and which commands do.
+fn say_no_setting(
+    into: &mut Vec<u8>,
+    command: Command,
+    setting: Setting,
+) -> Result<(), AllocError> {
+    say_around(into, "expected no ", setting.name(), "")?;
+    say_around(into, " at ", command.word(), "")?;
+    match setting {
+        Setting::Overhead => say(
+            into,
+            ", which has no link: it is for link, forward and size",
+        ),
+        Setting::Rate if command.has_link() => {
+            say(into, ": it is for size, and RATE is the last argument here")
+        }
+        _ => say(into, ": it is for size"),
+    }
+}
+
+/// Appends that an option's value is a second one.
+fn say_twice(into: &mut Vec<u8>, setting: Setting, word: &str) -> Result<(), AllocError> {
+    say_around(into, "expected one ", setting.name(), ", found ")?;
+    say_short(into, word)?;
+    say(into, " as a second one")
+}
+
+/// Returns the same parts for a mistake about the options for events and sums, and about rank stores.
 fn option_parts_of<'a>(mistake: Mistake<'a>) -> (&'static str, &'a str, &'static str) {
     match mistake {
-        Mistake::NoOverhead(command) => (
-            "expected no --overhead at ",
-            command.word(),
-            ", which has no link: it is for link and forward",
-        ),
         Mistake::NoView(command, View::Json) => (
             "expected no --json at ",
             command.word(),
-            ": it is for direct, replay and link",
+            ": it is for direct, replay, link and size",
         ),
         Mistake::NoView(command, _) => (
             "expected no --summary at ",
@@ -123,7 +155,11 @@ fn option_parts_of<'a>(mistake: Mistake<'a>) -> (&'static str, &'a str, &'static
             command.word(),
             ", found none: without a target there are no rank stores",
         ),
-        Mistake::OverheadTwice(word) => ("expected one overhead, found ", word, " as a second one"),
+        Mistake::ScriptAndRate(word) => (
+            "expected SCRIPT or --rate, found both: the script is ",
+            word,
+            "",
+        ),
         Mistake::TwoViews => ("expected one of --json and --summary, found two", "", ""),
         Mistake::NoSummary(word) => (
             "expected --summary or --summary=json, found --summary=",
@@ -161,7 +197,7 @@ fn parts_of<'a>(mistake: Mistake<'a>) -> (&'static str, &'a str, &'static str) {
         Mistake::NoBlock(command) => (
             "expected a command that runs on rank stores after --block, found ",
             command.word(),
-            "; there are check plan replay link direct soak calm",
+            "; there are check plan replay link direct soak calm size",
         ),
         Mistake::OverInput(name) => (
             "expected an output that isn't an input, found ",
@@ -187,7 +223,10 @@ fn say_mistake(alloc: Global, into: &mut Vec<u8>, mistake: Mistake<'_>) -> Resul
             say_short(into, word)?;
             say_around(into, ": ", rate_reason(word.as_bytes(), fault), "")
         }
-        Mistake::NoNumber(_, name, word, most) => say_no_number(alloc, into, name, word, most),
+        Mistake::NoNumber(_, name, word, range) => say_no_number(alloc, into, name, word, range),
+        Mistake::NoSetting(command, setting) => say_no_setting(into, command, setting),
+        Mistake::SettingTwice(setting, word) => say_twice(into, setting, word),
+        Mistake::SettingAlone(_, setting, other) => say_alone(into, setting, other),
         Mistake::OptionForValue(option, word) => {
             say_around(into, "expected a value after ", option, ", found ")?;
             say_short(into, word)
@@ -208,6 +247,8 @@ fn command_in(mistake: Mistake<'_>) -> Option<Command> {
             Some(command),
         Mistake::NoNumber(command, _, _, _) | Mistake::BlockWithoutTarget(command) => Some(command),
         Mistake::NoRate(command, _, _) | Mistake::Empty(command, _) => Some(command),
+        Mistake::SettingAlone(command, _, _) => Some(command),
+        Mistake::ScriptAndRate(_) => Some(Command::Size),
         Mistake::UnknownTap(_) | Mistake::TapTwice(_) | Mistake::NoTapName => Some(Command::Replay),
         _ => None,
     }

@@ -1,7 +1,14 @@
 //! Separates a command line into arguments and options.
 use crate::mistake::Mistake;
-use front_defs::View;
+use front_defs::{SETTINGS, Setting, View};
 use std::alloc::Global;
+
+/// An option and the text of its number.
+#[derive(Clone, Copy, Debug)]
+pub struct Given<'a> {
+    pub setting: Setting,
+    pub word: &'a str,
+}
 
 /// The arguments and options of a command line.
 #[derive(Drop)]
@@ -9,7 +16,7 @@ pub struct Scan<'a> {
     pub arguments: Vec<&'a str>,
     pub taps: Vec<&'a str>,
     pub output: Option<&'a str>,
-    pub overhead: Option<&'a str>,
+    pub settings: Vec<Given<'a>>,
     pub view: Option<View>,
     pub block: bool,
     pub plain: bool,
@@ -35,6 +42,22 @@ fn value_after<'a>(option: &'a str, next: Option<&'a str>) -> Result<&'a str, Mi
     }
 }
 
+/// Returns the option for a number that a word names, and the value that is joined to it.
+fn setting_in<'a>(word: &'a str) -> Option<(Setting, Option<&'a str>)> {
+    for setting in SETTINGS {
+        match value_in(word, setting.name()) {
+            Some("") => return Some((setting, None)),
+            Some(rest) => {
+                if let Some(value) = value_in(rest, "=") {
+                    return Some((setting, Some(value)));
+                }
+            }
+            None => (),
+        }
+    }
+    None
+}
+
 /// Returns the view that an option names.
 fn view_named(word: &str) -> Option<View> {
     match word {
@@ -51,7 +74,7 @@ impl<'a> Scan<'a> {
             arguments: Vec::new(alloc),
             taps: Vec::new(alloc),
             output: None,
-            overhead: None,
+            settings: Vec::new(alloc),
             view: None,
             block: false,
             plain: false,
@@ -79,11 +102,29 @@ impl<'a> Scan<'a> {
         }
         match option {
             "-t" | "--tap" => self.taps.push(value)?,
-            "--overhead" if self.overhead.is_some() => return Err(Mistake::OverheadTwice(value)),
-            "--overhead" => self.overhead = Some(value),
             _ if self.output.is_some() => return Err(Mistake::OutputTwice(value)),
             _ => self.output = Some(value),
         }
+        Ok(())
+    }
+
+    /// Returns the text of an option's number.
+    pub fn word_of(&self, setting: Setting) -> Option<&'a str> {
+        self.settings
+            .iter()
+            .find(|given| given.setting == setting)
+            .map(|given| given.word)
+    }
+
+    /// Sets an option's number.
+    fn set(&mut self, setting: Setting, word: &'a str) -> Result<(), Mistake<'a>> {
+        if word.is_empty() {
+            return Err(Mistake::EmptyValue(setting.name()));
+        }
+        if self.word_of(setting).is_some() {
+            return Err(Mistake::SettingTwice(setting, word));
+        }
+        self.settings.push(Given { setting, word })?;
         Ok(())
     }
 
@@ -166,16 +207,22 @@ impl<'a> Scan<'a> {
 
     /// Sets a long option with a value. Returns whether the value is the next argument.
     fn long(&mut self, word: &'a str, next: Option<&'a str>) -> Result<bool, Mistake<'a>> {
-        if word == "--tap" || word == "--output" || word == "--overhead" {
+        if word == "--tap" || word == "--output" {
             self.value(word, value_after(word, next)?)?;
             return Ok(true);
+        }
+        if let Some((setting, joined)) = setting_in(word) {
+            let value = match joined {
+                Some(value) => value,
+                None => value_after(word, next)?,
+            };
+            self.set(setting, value)?;
+            return Ok(joined.is_none());
         }
         if let Some(name) = value_in(word, "--tap=") {
             self.value("--tap", name)?;
         } else if let Some(name) = value_in(word, "--output=") {
             self.value("--output", name)?;
-        } else if let Some(bytes) = value_in(word, "--overhead=") {
-            self.value("--overhead", bytes)?;
         } else if let Some(form) = value_in(word, "--summary=") {
             return Err(Mistake::NoSummary(form));
         } else {

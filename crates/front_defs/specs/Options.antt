@@ -18,6 +18,7 @@ command_word c.Direct = codes "direct"
 command_word c.Via = codes "via"
 command_word c.Soak = codes "soak"
 command_word c.Calm = codes "calm"
+command_word c.Size = codes "size"
 
 -- the argument of a rate in bytes per second, in decimal, if there is a rate
 abbrev pub rate_words : Option ℕ → List (List ℕ)
@@ -42,11 +43,15 @@ abbrev pub words_of : Options → List (List ℕ)
 words_of o = words_by o.command (names o.files.items) o.rate (names o.taps.items)
 
 -- ---- what the replayer has no arguments for
--- whether a link paces the command's run
+-- whether the command's last argument is the rate of a link that paces its run
 abbrev pub has_link : Command → Bool
 has_link c.Link = true
 has_link c.Forward = true
 has_link command = false
+
+abbrev pub is_size : Command → Bool
+is_size c.Size = true
+is_size command = false
 
 -- whether a run writes a line for each event, as the replayer does
 abbrev pub is_report : View → Bool
@@ -60,7 +65,7 @@ is_own_by command files = has_link command && files == 2
 -- whether the replayer has arguments for a command with this number of files, a view, and the bytes
 -- that a link takes for each packet besides its length
 abbrev pub has_words_by : Command → ℕ → View → ℕ → Bool
-has_words_by command files view overhead = is_report view && overhead == 0 && not (is_own_by command files)
+has_words_by command files view overhead = is_report view && overhead == 0 && not (is_own_by command files) && not (is_size command)
 
 abbrev pub is_own : Options → Bool
 is_own o = is_own_by o.command (length o.files.items)
@@ -114,3 +119,6 @@ overhead_has_none = refl
 
 other_views_have_none : map (λ view. has_words_by c.Direct 3 view 0) (v.Json ∷ v.Summary ∷ v.JsonSummary ∷ []) ≡ false ∷ false ∷ false ∷ []
 other_views_have_none = refl
+
+sizes_have_none : map (λ files. has_words_by c.Size files v.Report 0) (3 ∷ 4 ∷ []) ≡ false ∷ false ∷ []
+sizes_have_none = refl

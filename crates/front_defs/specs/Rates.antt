@@ -1,9 +1,9 @@
 -- Rates with units: a number with a unit, and the exact number of bytes per second that it gives.
 use Rattle.std.specs.Prelude.{◌≡◌, refl, ℕ, ◌+◌, ◌*◌, ◌^◌, ◌/◌, ◌%◌, ◌==◌, nat_le, ◌&&◌, ◌||◌, if◌then◌else◌, Option, None, Some, option_map, Result, Ok, Err, List, [], ◌∷◌, length, take, drop, map, codes}
 use Rattle.std.specs.List.{prefix_len}
-use Rattle.std.specs.Option.{option_and_then, option_map_or}
+use Rattle.std.specs.Option.{option_map_or}
 use Rattle.std.specs.Str.{bytes_eq}
-use Rattle.sched_defs.specs.SendTime.{most_rate, most_overhead}
+use Rattle.sched_defs.specs.SendTime.{most_rate}
 use Rattle.text_core.specs.Decimals.{number_of}
 use Rattle.text_core.specs.Tokens.{is_digit}
 use Rattle.front_defs.specs.declared.unit.Unit.{Unit}
@@ -92,10 +92,6 @@ rate_written w =
 abbrev pub rate_in : List ℕ → Result ℕ RateFault
 rate_in w = rate_written (written w)
 
--- the bytes that an argument gives for a link to take for each packet besides its length
-abbrev pub overhead_in : List ℕ → Option ℕ
-overhead_in w = option_and_then (λ n. if nat_le n most_overhead then Some n else None) (number_of w)
-
 bytes_a_second : map rate_in (codes "125000" ∷ codes "125000B" ∷ codes "0125kB" ∷ []) ≡ Ok 125000 ∷ Ok 125000 ∷ Ok 125000 ∷ []
 bytes_a_second = refl
 
@@ -122,9 +118,3 @@ numbers_have_digits = refl
 
 twelve_digits_at_most : map rate_in (codes "0.000000000008Tbit" ∷ codes "0.0000000000080Tbit" ∷ []) ≡ Ok 1 ∷ Err f.TooFine ∷ []
 twelve_digits_at_most = refl
-
-overhead_has_a_range : map overhead_in (codes "0" ∷ codes "024" ∷ codes "65535" ∷ codes "65536" ∷ []) ≡ Some 0 ∷ Some 24 ∷ Some 65535 ∷ None ∷ []
-overhead_has_a_range = refl
-
-overhead_is_in_bytes_alone : map overhead_in (codes "" ∷ codes "-1" ∷ codes "24B" ∷ codes "1.5" ∷ []) ≡ None ∷ None ∷ None ∷ None ∷ []
-overhead_is_in_bytes_alone = refl

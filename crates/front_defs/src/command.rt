@@ -1,8 +1,8 @@
 //! The commands.
 ghost use Rattle.std.specs.Prelude.{◌≡◌};
-ghost use Rattle.front_defs.specs.Options.{command_word, has_link};
+ghost use Rattle.front_defs.specs.Options.{command_word, has_link, is_size};
 
-/// A command of the replayer. `Calm` is one on rank stores only.
+/// A command. `Calm` is one on rank stores only. The replayer has all of them except `Size`.
 #[derive(Clone, Copy, PartialEq, Eq, Debug)]
 pub enum Command {
     Check,
@@ -14,10 +14,11 @@ pub enum Command {
     Via,
     Soak,
     Calm,
+    Size,
 }
 
 impl Command {
-    /// Returns the name of a command, as the replayer's first argument.
+    /// Returns the name of a command, as the first argument.
     pub fn word(self) -> &'static str
         ensures { result.now ≡ command_word self }
     {
@@ -31,9 +32,10 @@ impl Command {
             Command::Via => "via",
             Command::Soak => "soak",
             Command::Calm => "calm",
+            Command::Size => "size",
         }
     }
-    /// Returns whether a link paces the command's run.
+    /// Returns whether the command's last argument is the rate of a link that paces its run.
     pub fn has_link(self) -> bool
         ensures { result ≡ has_link self }
     {
@@ -41,5 +43,12 @@ impl Command {
             Command::Link | Command::Forward => true,
             _ => false,
         }
+    }
+
+    /// Returns whether the command is `size`.
+    pub fn is_size(self) -> bool
+        ensures { result ≡ is_size self }
+    {
+        matches!(self, Command::Size)
     }
 }

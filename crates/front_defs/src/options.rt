@@ -3,6 +3,7 @@ ghost use Rattle.std.specs.Prelude.{◌≡◌, ◌++◌, ◌∷◌, [], IfOk, On
 ghost use Rattle.front_defs.specs.Options.{names, tap_words, rate_words, words_of, is_own, has_words};
 
 use crate::command::Command;
+use crate::sizes::Sizes;
 use crate::view::View;
 use itoa::Buffer;
 use std::alloc::{AllocError, Global};
@@ -12,7 +13,8 @@ use std::alloc::{AllocError, Global};
 pub struct Options<'a> {
     pub command: Command,
     /// The command's file names in their order; for `soak`, its two numbers. A link through the
-    /// policy's own tree has a policy and a capture, and no target.
+    /// policy's own tree has a policy and a capture, and no target. `size` has no script if a link
+    /// paces it.
     pub files: Vec<&'a str>,
     /// The rate of a link, in bytes per second.
     pub rate: Option<u64>,
@@ -20,6 +22,8 @@ pub struct Options<'a> {
     pub overhead: u32,
     /// What a run writes.
     pub view: View,
+    /// The limits and widths of `size`.
+    pub sizes: Sizes,
     /// The names of taps.
     pub taps: Vec<&'a str>,
     /// Whether the target builds its queues from rank stores.
@@ -94,10 +98,13 @@ pub fn is_own(options: &Options<'_>) -> bool
     options.command.has_link() && options.files.len() == 2
 }
 
-/// Returns whether the replayer has arguments for the options: it writes reports alone, its links
-/// take no bytes besides a packet's length, and they run through a target's queues.
+/// Returns whether the replayer has arguments for the options: it writes reports alone and no sizes,
+/// its links take no bytes besides a packet's length, and they run through a target's queues.
 pub fn has_words(options: &Options<'_>) -> bool
     ensures { result ≡ has_words options.now }
 {
-    options.view == View::Report && options.overhead == 0 && !is_own(options)
+    options.view == View::Report
+        && options.overhead == 0
+        && !is_own(options)
+        && !options.command.is_size()
 }

@@ -1,13 +1,13 @@
 //! Rates with units, such as 10Mbit.
-ghost use Rattle.std.specs.Prelude.{◌≡◌, ◌+◌, ◌*◌, ◌^◌, ◌<◌, ◌≤◌, length, IfOk, IfSome};
+ghost use Rattle.std.specs.Prelude.{◌≡◌, ◌+◌, ◌*◌, ◌^◌, ◌<◌, ◌≤◌, length, IfOk};
 ghost use Rattle.std.specs.List.{prefix_len};
 ghost use Rattle.text_core.specs.Tokens.{is_digit};
 ghost use Rattle.text_core.specs.Decimals.{number_of};
-ghost use Rattle.sched_defs.specs.SendTime.{IsByteRate, most_overhead};
-ghost use Rattle.front_defs.specs.Rates.{most_whole, most_digits, rate_written, whole_bytes, rate_by, rate_of_digits, rate_in, overhead_in};
+ghost use Rattle.sched_defs.specs.SendTime.{IsByteRate};
+ghost use Rattle.front_defs.specs.Rates.{most_whole, most_digits, rate_written, whole_bytes, rate_by, rate_of_digits, rate_in};
 
 use crate::unit::{Unit, unit_of};
-use events_core::{MOST_OVERHEAD, MOST_RATE};
+use events_core::MOST_RATE;
 use text_core::decimal;
 
 /// Why an argument is not a rate.
@@ -124,17 +124,4 @@ pub fn rate_in(word: &[u8]) -> Result<u64, RateFault>
         }
         _ => rate_written(whole, b"0", rest),
     }
-}
-
-/// Parses the bytes that a link takes for each packet besides its length. Returns none if the word
-/// is not a whole number, or if it is greater than `MOST_OVERHEAD`.
-pub fn overhead_in(word: &[u8]) -> Option<u32>
-    ensures value { result ≡ overhead_in word.now }
-    ensures range { IfSome result (λ bytes. bytes ≤ most_overhead) }
-{
-    let bytes = decimal(word)?;
-    if bytes > MOST_OVERHEAD as u64 {
-        return None;
-    }
-    Some(bytes as u32)
 }

@@ -76,11 +76,11 @@ render_same Text gs hs same =
 render_same Json gs hs same =
     λ i. codes "{\"all\":{" ++ (figures_json (same.all i) ++ ((array_json (codes ",\"leaves\":[") (same.leaves i) ++ array_json (codes "],\"classes\":[") (same.classes i)) ++ end_json (same.fairness i)))
 
-none_some : {X A : Type 0} (o : Option X) (x : X) → o ≡ None → o ≡ Some x → A
+pub none_some : {X A : Type 0} (o : Option X) (x : X) → o ≡ None → o ≡ Some x → A
 none_some None x none some = cc
 none_some (Some y) x none some = cc
 
-same_some : {X : Type 0} (o : Option X) (x y : X) → o ≡ Some x → o ≡ Some y → x ≡ y
+pub same_some : {X : Type 0} (o : Option X) (x y : X) → o ≡ Some x → o ≡ Some y → x ≡ y
 same_some o x y p q = let e : Some x ≡ Some y = sym p ∙ q in cc
 
 -- the text of a summary's groups, if there was memory for it

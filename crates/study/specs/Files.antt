@@ -6,7 +6,7 @@ use Rattle.study.specs.declared.parts.Drive.{Drive}
 use Rattle.study.specs.declared.parts.Drive.TheVariants.{Script, Link, Forward}
 use Rattle.study.specs.declared.parts.Study.{Study}
 use Rattle.study.specs.declared.parts.View.{View}
-use Rattle.study.specs.declared.parts.View.TheVariants.{Report, Json, Summary, JsonSummary}
+use Rattle.study.specs.declared.parts.View.TheVariants.{Report, Json, Summary, JsonSummary, Size, JsonSize}
 
 -- the name of the target, if there is one
 abbrev pub target_of : Study → Option (List ℕ)
@@ -40,6 +40,8 @@ IsSum Report = ⊥
 IsSum Json = ⊥
 IsSum Summary = Unit {0}
 IsSum JsonSummary = Unit {0}
+IsSum (Size m) = ⊥
+IsSum (JsonSize m) = ⊥
 
 -- whether a run is summed up; the view of a forward is ignored
 abbrev pub IsSummedUp : Drive → View → Type 0
@@ -47,12 +49,14 @@ IsSummedUp (Script e) view = IsSum view
 IsSummedUp (Link rate) view = IsSum view
 IsSummedUp (Forward rate) view = ⊥
 
--- a sum may have no room
+-- a sum may have no room, and a queue may pass a limit
 abbrev pub view_statuses : View → List ℕ → List ℕ
 view_statuses Report others = others
 view_statuses Json others = others
 view_statuses Summary others = 14 ∷ others
 view_statuses JsonSummary others = 14 ∷ others
+view_statuses (Size m) others = 1 ∷ others
+view_statuses (JsonSize m) others = 1 ∷ others
 
 abbrev pub drive_statuses : Drive → View → List ℕ
 drive_statuses (Script e) view = view_statuses view run_statuses

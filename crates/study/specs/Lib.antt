@@ -3,6 +3,7 @@ pub mod Files
 pub mod JsonRuns
 pub mod Labels
 pub mod SumRuns
+pub mod SizeRuns
 pub mod Studied
 pub mod Placed
 pub mod Rows

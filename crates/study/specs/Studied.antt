@@ -9,6 +9,9 @@ use Rattle.sched_defs.specs.declared.rate.LinkRate.{LinkRate}
 use Rattle.target_core.specs.declared.target.Target.{Target}
 use Rattle.sched_capture.specs.Answers.{paced_answer}
 use Rattle.sched_capture.specs.Forwards.{forward_answer}
+use Rattle.sched_embedded.specs.Laid.{Laid}
+use Rattle.size_core.specs.Text.{sizes_text}
+use Rattle.size_core.specs.Json.{sizes_json}
 use Rattle.summary_core.specs.Text.{summary_text}
 use Rattle.summary_core.specs.Json.{summary_json}
 use Rattle.replay_app.specs.Answer.{Answer, IsGiven, text_alone}
@@ -20,46 +23,49 @@ use Rattle.replay_app.specs.Targets.{ForTarget, WithRoom}
 use Rattle.study.specs.Files.{target_of, IsSummedUp}
 use Rattle.study.specs.JsonRuns.{json_run}
 use Rattle.study.specs.SumRuns.{IsSummed}
+use Rattle.study.specs.SizeRuns.{IsSizedIn}
 use Rattle.study.specs.declared.parts.Drive.{Drive}
 use Rattle.study.specs.declared.parts.Drive.TheVariants.{Script, Link, Forward}
 use Rattle.study.specs.declared.parts.Study.{Study}
 use Rattle.study.specs.declared.parts.View.{View}
-use Rattle.study.specs.declared.parts.View.TheVariants.{Report, Json, Summary, JsonSummary}
+use Rattle.study.specs.declared.parts.View.TheVariants.{Report, Json, Summary, JsonSummary, Size, JsonSize}
 
 -- The target needs room for a policy's tree. A run through a target gives the output of a run
 -- through the policy's own tree.
-abbrev pub FitsIn : Target → Topology → (Answer → Type 0) → Answer → Type 0
-FitsIn target tree after = WithRoom tree target (λ laid. after)
+abbrev pub FitsIn : Target → Topology → (Option Laid → Answer → Type 0) → Answer → Type 0
+FitsIn target tree after = WithRoom tree target (λ laid. after (Some laid))
 
 -- the target is read
-abbrev pub ForTargetText : List ℕ → Topology → (Answer → Type 0) → Answer → Type 0
+abbrev pub ForTargetText : List ℕ → Topology → (Option Laid → Answer → Type 0) → Answer → Type 0
 ForTargetText text tree after = ForTarget text (λ target. FitsIn target tree after)
 
 -- the target, if there is one, is read
-abbrev pub InTarget : Option (List ℕ) → Topology → (List ℕ → List ℕ) → (Answer → Type 0) → Answer → Type 0
-InTarget None tree contents after = after
+abbrev pub InTarget : Option (List ℕ) → Topology → (List ℕ → List ℕ) → (Option Laid → Answer → Type 0) → Answer → Type 0
+InTarget None tree contents after = after None
 InTarget (Some t) tree contents after = ForTargetText (contents t) tree after
 
 -- the output of a run over a capture, by its view
-abbrev pub IsViewed : View → Judged → pace.Pace → List ℕ → Answer → Type 0
-IsViewed Report judged paced capture = λ a. a ≡ direct_run judged.policy paced capture
-IsViewed Json judged paced capture = λ a. a ≡ json_run judged.policy paced capture
-IsViewed Summary judged paced capture = IsSummed summary_text judged paced (paced_answer judged.policy paced capture)
-IsViewed JsonSummary judged paced capture = IsSummed summary_json judged paced (paced_answer judged.policy paced capture)
+abbrev pub IsViewed : View → Option Laid → Judged → pace.Pace → List ℕ → Answer → Type 0
+IsViewed Report laid judged paced capture = λ a. a ≡ direct_run judged.policy paced capture
+IsViewed Json laid judged paced capture = λ a. a ≡ json_run judged.policy paced capture
+IsViewed Summary laid judged paced capture = IsSummed summary_text judged paced (paced_answer judged.policy paced capture)
+IsViewed JsonSummary laid judged paced capture = IsSummed summary_json judged paced (paced_answer judged.policy paced capture)
+IsViewed (Size m) laid judged paced capture = IsSizedIn sizes_text m laid judged.policy paced capture
+IsViewed (JsonSize m) laid judged paced capture = IsSizedIn sizes_json m laid judged.policy paced capture
 
 -- the departures of a link as a capture, and the status of the run
 abbrev pub departures : Resolved → LinkRate → List ℕ → Answer
 departures policy rate capture = text_alone (status_code (forward_status (forward_answer policy rate capture).ending)) (forward_answer policy rate capture).text
 
 -- the output of a run along the steps of the script of this name
-abbrev pub AlongSteps : List ℕ → View → Judged → List ℕ → (List ℕ → List ℕ) → Answer → Type 0
-AlongSteps e view judged capture contents = AlongScript (contents e) (λ steps. IsViewed view judged (script_pace steps) capture)
+abbrev pub AlongSteps : List ℕ → View → Option Laid → Judged → List ℕ → (List ℕ → List ℕ) → Answer → Type 0
+AlongSteps e view laid judged capture contents = AlongScript (contents e) (λ steps. IsViewed view laid judged (script_pace steps) capture)
 
 -- the output of a run over a capture, by what paces it
-abbrev pub IsDriven : Drive → View → Judged → List ℕ → (List ℕ → List ℕ) → Answer → Type 0
-IsDriven (Script e) view judged capture contents = AlongSteps e.now view judged capture contents
-IsDriven (Link rate) view judged capture contents = IsViewed view judged (pace.Link rate) capture
-IsDriven (Forward rate) view judged capture contents = λ a. a ≡ departures judged.policy rate capture
+abbrev pub IsDriven : Drive → View → Option Laid → Judged → List ℕ → (List ℕ → List ℕ) → Answer → Type 0
+IsDriven (Script e) view laid judged capture contents = AlongSteps e.now view laid judged capture contents
+IsDriven (Link rate) view laid judged capture contents = IsViewed view laid judged (pace.Link rate) capture
+IsDriven (Forward rate) view laid judged capture contents = λ a. a ≡ departures judged.policy rate capture
 
 -- The output of a study for the contents of its files. Inputs are rejected or accepted in this
 -- order: the policy, the target, the target's room for the policy's tree, the script, and the
@@ -67,8 +73,8 @@ IsDriven (Forward rate) view judged capture contents = λ a. a ≡ departures ju
 abbrev pub IsStudied : Study → (List ℕ → List ℕ) → Answer → Type 0
 IsStudied s contents =
     UnderPolicy (contents s.policy.now) (λ judged.
-    InTarget (target_of s) (topology_of judged.policy.policy.tree) contents (
-    IsDriven s.drive s.view judged (contents s.capture.now) contents))
+    InTarget (target_of s) (topology_of judged.policy.policy.tree) contents (λ laid.
+    IsDriven s.drive s.view laid judged (contents s.capture.now) contents))
 
 -- The run is summed up, and a sum had no room: nothing is written, with the status of a departure
 -- that starts too late. Runs of fewer than 2^32 packets always have room, unless a delay is 2^64

@@ -7,10 +7,11 @@ mod labels;
 mod parts;
 mod recorded;
 mod runs;
+mod sizes;
 mod stages;
 mod sums;
 mod views;
 
 pub use command::study;
-pub use parts::{Drive, Study, View};
+pub use parts::{Drive, Measure, Study, View};
 pub use recorded::{Recorded, record_own, record_through};

@@ -1,5 +1,6 @@
 //! The parts of a study: its files, what paces it, and how its outcomes are written.
 use sched_defs::LinkRate;
+use size_core::{Limits, Widths};
 
 /// How the outcomes are written.
 #[derive(Clone, Copy, PartialEq, Eq, Debug)]
@@ -12,6 +13,20 @@ pub enum View {
     Summary,
     /// Sums in place of the outcomes, as one JSON object.
     JsonSummary,
+    /// How large the target's queues get, as text. Without a target, the report.
+    Size(Measure),
+    /// The same as one JSON object.
+    JsonSize(Measure),
+}
+
+/// What is measured of a target's queues.
+#[derive(Clone, Copy, PartialEq, Eq, Debug)]
+pub struct Measure {
+    /// Whether the queues are built from rank stores, which are then measured too.
+    pub stores: bool,
+    pub limits: Limits,
+    /// The widths of a rank and of an entry, if the memory is wanted.
+    pub widths: Option<Widths>,
 }
 
 /// What paces the run.

@@ -9,6 +9,7 @@ ghost use Rattle.replay_app.specs.Words.{AreLent, WhereTold};
 ghost use Rattle.study.specs.Files.{target_of, with_target, drive_files, study_files, HasLinkRate, drive_statuses, target_statuses, study_statuses, IsSummedUp, IsSum, view_statuses};
 ghost use Rattle.study.specs.Placed.{IsPlaced};
 ghost use Rattle.study.specs.SumRuns.{IsToldOr, HasNames};
+ghost use Rattle.study.specs.SizeRuns.{laid_of};
 ghost use Rattle.study.specs.Studied.{AlongSteps, IsDriven, FitsIn, ForTargetText, InTarget, IsStudied};
 
 use crate::parts::{Drive, Study};
@@ -42,7 +43,7 @@ fn study_script<S: Shelf, K: Sink, F: Fabric>(
 
     ensures answer { HasNames (judged_of judged.now) → WhereTold (S.content shelf.old)
         (study.now.capture.now ∷ name.now ∷ []) (λ contents.
-        IsToldOr (IsSum study.now.view) (AlongSteps name.now study.now.view (judged_of judged.now) (contents study.now.capture.now) contents) result
+        IsToldOr (IsSum study.now.view) (AlongSteps name.now study.now.view (laid_of place) (judged_of judged.now) (contents study.now.capture.now) contents) result
         (K.written sink.old) (K.written sink.new)) }
     ensures statuses { IfOk result (λ s. IsOneOf (view_statuses study.now.view run_statuses)
         (status_code s)) }
@@ -81,7 +82,7 @@ fn study_driven<S: Shelf, K: Sink, F: Fabric>(
 
     ensures answer { HasNames (judged_of judged.now) → WhereTold (S.content shelf.old)
         (study.now.capture.now ∷ drive_files study.now.drive) (λ contents.
-        IsToldOr (IsSummedUp study.now.drive study.now.view) (IsDriven study.now.drive study.now.view (judged_of judged.now) (contents study.now.capture.now) contents) result
+        IsToldOr (IsSummedUp study.now.drive study.now.view) (IsDriven study.now.drive study.now.view (laid_of place) (judged_of judged.now) (contents study.now.capture.now) contents) result
         (K.written sink.old) (K.written sink.new)) }
     ensures statuses { IfOk result (λ s. IsOneOf (drive_statuses study.now.drive study.now.view)
         (status_code s)) }
@@ -133,7 +134,7 @@ fn study_placed<S: Shelf, K: Sink, F: Fabric>(
     ensures answer { HasNames (judged_of judged.now) → WhereTold (S.content shelf.old)
         (study.now.capture.now ∷ drive_files study.now.drive) (λ contents.
         IsToldOr (IsSummedUp study.now.drive study.now.view) (FitsIn target (topology_of judged.now.policy.policy.tree)
-        (IsDriven study.now.drive study.now.view (judged_of judged.now) (contents study.now.capture.now) contents)) result
+        (λ laid. IsDriven study.now.drive study.now.view laid (judged_of judged.now) (contents study.now.capture.now) contents)) result
         (K.written sink.old) (K.written sink.new)) }
     ensures statuses { IfOk result (λ s. IsOneOf (5 ∷ drive_statuses study.now.drive study.now.view)
         (status_code s)) }
@@ -171,7 +172,7 @@ fn study_target<S: Shelf, K: Sink, F: Fabric>(
     ensures answer { HasNames (judged_of judged.now) → WhereTold (S.content shelf.old)
         (name.now ∷ study.now.capture.now ∷ drive_files study.now.drive) (λ contents.
         IsToldOr (IsSummedUp study.now.drive study.now.view) (ForTargetText (contents name.now) (topology_of judged.now.policy.policy.tree)
-        (IsDriven study.now.drive study.now.view (judged_of judged.now) (contents study.now.capture.now) contents)) result
+        (λ laid. IsDriven study.now.drive study.now.view laid (judged_of judged.now) (contents study.now.capture.now) contents)) result
         (K.written sink.old) (K.written sink.new)) }
     ensures statuses { IfOk result (λ s. IsOneOf
         (4 ∷ 5 ∷ drive_statuses study.now.drive study.now.view) (status_code s)) }
@@ -205,7 +206,7 @@ fn study_policy<S: Shelf, K: Sink, F: Fabric>(
         (with_target (target_of study.now) (study.now.capture.now ∷ drive_files study.now.drive))
         (λ contents.
         IsToldOr (IsSummedUp study.now.drive study.now.view) (InTarget (target_of study.now) (topology_of judged.now.policy.policy.tree) contents
-        (IsDriven study.now.drive study.now.view (judged_of judged.now) (contents study.now.capture.now) contents)) result
+        (λ laid. IsDriven study.now.drive study.now.view laid (judged_of judged.now) (contents study.now.capture.now) contents)) result
         (K.written sink.old) (K.written sink.new)) }
     ensures statuses { IfOk result (λ s. IsOneOf (target_statuses (target_of study.now)
         (drive_statuses study.now.drive study.now.view)) (status_code s)) }

@@ -5,6 +5,7 @@ ghost use Rattle.outside_core.specs.Kept.{KeepsSink};
 ghost use Rattle.outside_core.specs.Written.{Appended};
 ghost use Rattle.report_defs.specs.Text.{IsCut};
 ghost use Rattle.report_core.specs.Gathered.{text_of};
+ghost use Rattle.policy_defs.specs.Accepted.{IsAccepted};
 ghost use Rattle.sched_defs.specs.SendTime.{IsRate};
 ghost use Rattle.sched_run.specs.Steps.{pace_of, IsBounded};
 ghost use Rattle.sched_capture.specs.Answers.{paced_answer};
@@ -17,12 +18,14 @@ ghost use Rattle.study.specs.JsonRuns.{rate_in, json_run};
 ghost use Rattle.study.specs.Placed.{IsPlaced};
 ghost use Rattle.study.specs.Files.{IsSum, view_statuses};
 ghost use Rattle.study.specs.SumRuns.{IsSummed, IsToldOr, HasNames, render};
+ghost use Rattle.study.specs.SizeRuns.{IsSized, IsSizedIn, laid_of, shown};
 ghost use Rattle.study.specs.Studied.{IsViewed, departures};
 
 use crate::labels::{leaf_table, leaves_of};
-use crate::parts::View;
-use crate::recorded::Recorded;
+use crate::parts::{Measure, View};
+use crate::recorded::{Recorded, record_own};
 use crate::runs::{record, write_departures, write_report};
+use crate::sizes::tell_sizes;
 use crate::sums::{Form, sum_rate, tell_sums};
 use event_json::JsonReport;
 use fabric_core::Fabric;
@@ -32,6 +35,7 @@ use replay_app::{Judged, Status};
 use sched_capture::{Ending, Placement, Task};
 use sched_defs::LinkRate;
 use sched_run::Pace;
+use size_core::Sizing;
 use std::alloc::Global;
 use summary_core::Summary;
 
@@ -177,6 +181,96 @@ fn view_sums<S: Shelf, K: Sink, F: Fabric>(
     }
 }
 
+/// Says that a policy is an accepted one. Does nothing.
+fn accept(policy: &Policy)
+    ensures accepted { IsAccepted policy.now.policy }
+{
+    let _ = policy.classes();
+}
+
+/// Runs a task through the policy's own tree, and says in this form how large the target's queues
+/// get. The recorder has a copy of these queues.
+fn view_sizes<S: Shelf, K: Sink>(
+    alloc: Global,
+    form: Form,
+    measure: &Measure,
+    policy: &Policy,
+    place: &Placement,
+    task: &Task<'_, '_>,
+    shelf: &mut S,
+    sink: &mut K,
+) -> Result<Status, Stop>
+    requires lent { IsTrue (S.lends shelf.old task.now.capture.now) }
+    requires bounded { IsBounded task.now.pace }
+    requires placed { IsPlaced policy.now.policy place.now }
+
+    ensures answer { IfSome (S.content shelf.old task.now.capture.now) (λ file.
+        IsTold (IsSized (shown form) measure.now
+        (record { images = place.now.map; arities = place.now.target.arities }) policy.now.policy
+        (paced_answer policy.now (pace_of task.now.pace) file)) result
+        (K.written sink.old) (K.written sink.new)) }
+    ensures statuses { IfOk result (λ s. IsOneOf (1 ∷ pace_statuses task.now.pace)
+        (status_code s)) }
+    ensures shelf_cause { IsErrOf result Stop.Source → Rose (S.faults shelf.old)
+        (S.faults shelf.new) }
+    ensures sink_cause { IsErrOf result Stop.Sink → Rose (K.faults sink.old) (K.faults sink.new) }
+    ensures sink_later { K.faults sink.old ≤ K.faults sink.new }
+{
+    let sizing = Sizing::new(
+        alloc,
+        policy,
+        &place.map,
+        &place.target,
+        measure.limits,
+        measure.stores,
+    )?;
+    accept(policy);
+    let recorded = record_own(alloc, policy, task, sizing, shelf, sink)?;
+    match recorded {
+        Recorded::Whole(ending, sizing) => {
+            let sizes = sizing.into_sizes(alloc)?;
+            tell_sizes(alloc, form, measure, &sizes, ending, sink)
+        }
+        Recorded::Refused(ending) => Ok(Status::of_run(ending)),
+    }
+}
+
+/// The same if the policy's tree is placed. Otherwise writes the report.
+fn view_sizes_in<S: Shelf, K: Sink, F: Fabric>(
+    alloc: Global,
+    form: Form,
+    measure: &Measure,
+    policy: &Policy,
+    place: Option<Placement>,
+    task: &Task<'_, '_>,
+    shelf: &mut S,
+    sink: &mut K,
+    fabric: &mut F,
+) -> Result<Status, Stop>
+    requires lent { IsTrue (S.lends shelf.old task.now.capture.now) }
+    requires bounded { IsBounded task.now.pace }
+    requires placed { IfSome place (IsPlaced policy.now.policy) }
+    requires pushes { F.pushed fabric.old < 2 ^ 61 }
+    requires pops { F.popped fabric.old < 2 ^ 61 }
+
+    ensures answer { IfSome (S.content shelf.old task.now.capture.now) (λ file.
+        IsTold (IsSizedIn (shown form) measure.now (laid_of place) policy.now
+        (pace_of task.now.pace) file) result (K.written sink.old) (K.written sink.new)) }
+    ensures statuses { IfOk result (λ s. IsOneOf (1 ∷ pace_statuses task.now.pace)
+        (status_code s)) }
+    ensures shelf_cause { IsErrOf result Stop.Source → Rose (S.faults shelf.old)
+        (S.faults shelf.new) }
+    ensures sink_cause { IsErrOf result Stop.Sink → Rose (K.faults sink.old) (K.faults sink.new) }
+    ensures sink_later { K.faults sink.old ≤ K.faults sink.new }
+{
+    match place {
+        None => view_report(alloc, policy, None, task, shelf, sink, fabric),
+        Some(placement) => {
+            view_sizes(alloc, form, measure, policy, &placement, task, shelf, sink)
+        }
+    }
+}
+
 /// Runs a task, and writes its outcomes in the form of the view.
 pub fn write_view<S: Shelf, K: Sink, F: Fabric>(
     alloc: Global,
@@ -196,7 +290,7 @@ pub fn write_view<S: Shelf, K: Sink, F: Fabric>(
 
     ensures answer { HasNames (judged_of judged.now) → IfSome (S.content shelf.old
         task.now.capture.now) (λ file.
-        IsToldOr (IsSum view) (IsViewed view (judged_of judged.now) (pace_of task.now.pace) file) result
+        IsToldOr (IsSum view) (IsViewed view (laid_of place) (judged_of judged.now) (pace_of task.now.pace) file) result
         (K.written sink.old) (K.written sink.new)) }
     ensures statuses { IfOk result (λ s. IsOneOf (view_statuses view (pace_statuses task.now.pace))
         (status_code s)) }
@@ -210,6 +304,28 @@ pub fn write_view<S: Shelf, K: Sink, F: Fabric>(
         View::Json => view_json(alloc, &judged.policy, place, task, shelf, sink, fabric),
         View::Summary => view_sums(alloc, Form::Text, judged, place, task, shelf, sink, fabric),
         View::JsonSummary => view_sums(alloc, Form::Json, judged, place, task, shelf, sink, fabric),
+        View::Size(measure) => view_sizes_in(
+            alloc,
+            Form::Text,
+            &measure,
+            &judged.policy,
+            place,
+            task,
+            shelf,
+            sink,
+            fabric,
+        ),
+        View::JsonSize(measure) => view_sizes_in(
+            alloc,
+            Form::Json,
+            &measure,
+            &judged.policy,
+            place,
+            task,
+            shelf,
+            sink,
+            fabric,
+        ),
     }
 }
 

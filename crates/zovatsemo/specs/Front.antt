@@ -1,5 +1,5 @@
 -- What the options ask for: a run with the replayer's arguments that they give, or a study.
-use Rattle.std.specs.Prelude.{◌≡◌, refl, ℕ, nat_le, ◌&&◌, Bool, true, false, if◌then◌else◌, Option, None, Some, List, [], ◌∷◌, codes}
+use Rattle.std.specs.Prelude.{◌≡◌, refl, ℕ, nat_le, ◌&&◌, Bool, true, false, if◌then◌else◌, Option, None, Some, option_map, List, [], ◌∷◌, codes}
 use Rattle.std.specs.Borrow.{Bor}
 use Rattle.std.specs.Option.{option_and_then}
 use Rattle.sched_defs.specs.SendTime.{most_rate, most_overhead}
@@ -9,6 +9,7 @@ use Rattle.front_defs.specs.Options.{words_of, has_words}
 use Rattle.front_defs.specs.declared.command.Command.{Command}
 use Rattle.front_defs.specs.declared.command.Command.TheVariants as command
 use Rattle.front_defs.specs.declared.options.Options.{Options}
+use Rattle.front_defs.specs.declared.sizes.Sizes.{Sizes}
 use Rattle.front_defs.specs.declared.view.View.{View}
 use Rattle.front_defs.specs.declared.view.View.TheVariants as view
 use Rattle.replay_app.specs.Answer.{IsGiven}
@@ -21,16 +22,35 @@ use Rattle.study.specs.Files.{study_files, CanStudyEnd}
 use Rattle.study.specs.Studied.{IsAnswered}
 use Rattle.study.specs.declared.parts.Drive.{Drive}
 use Rattle.study.specs.declared.parts.Drive.TheVariants.{Script, Link, Forward}
+use Rattle.study.specs.declared.parts.Measure.{Measure}
 use Rattle.study.specs.declared.parts.Study.{Study}
 use Rattle.study.specs.declared.parts.View as study
 use Rattle.study.specs.declared.parts.View.TheVariants as studied
 
 -- ---- studies
-abbrev pub study_view : View → study.View
-study_view view.Report = studied.Report
-study_view view.Json = studied.Json
-study_view view.Summary = studied.Summary
-study_view view.JsonSummary = studied.JsonSummary
+-- the limits and widths of `size`, on rank stores or not
+abbrev pub measure : Bool → Sizes → Measure
+measure block sizes = record {
+  stores = block;
+  limits = record { entries = sizes.entries; bits = sizes.bits };
+  widths = option_map (λ w. record { rank = w.rank; entry = w.entry }) sizes.widths;
+}
+
+-- sizes are written as one JSON object if events would be JSON lines, and otherwise as text
+abbrev pub size_view : View → Measure → study.View
+size_view view.Json wanted = studied.JsonSize wanted
+size_view other wanted = studied.Size wanted
+
+abbrev pub run_view : View → study.View
+run_view view.Report = studied.Report
+run_view view.Json = studied.Json
+run_view view.Summary = studied.Summary
+run_view view.JsonSummary = studied.JsonSummary
+
+-- how the outcomes of a command are written
+abbrev pub study_view : Command → View → Measure → study.View
+study_view command.Size shown wanted = size_view shown wanted
+study_view other shown wanted = run_view shown
 
 -- a link of this many bytes per second, and bytes for each packet besides its length, if both are in
 -- range
@@ -59,17 +79,28 @@ abbrev pub replayed : List (Bor (List ℕ)) → study.View → Option Study
 replayed (p ∷ t ∷ c ∷ e ∷ []) shown = Some (scripted p (Some t) c e shown)
 replayed files shown = None
 
+-- a link paces a run through the queues of a target
+abbrev pub linked_through : List (Bor (List ℕ)) → LinkRate → study.View → Option Study
+linked_through (p ∷ t ∷ c ∷ []) rate shown = Some (record { policy = p; target = Some t; capture = c; drive = Link rate; view = shown })
+linked_through files rate shown = None
+
+-- a link paces the run of `size` if it has a rate, and otherwise a script
+abbrev pub sized : List (Bor (List ℕ)) → Option LinkRate → study.View → Option Study
+sized files None shown = replayed files shown
+sized files (Some rate) shown = linked_through files rate shown
+
 -- the study of a command with these files, and with this link if it has one
 abbrev pub study_by : Command → List (Bor (List ℕ)) → Option LinkRate → study.View → Option Study
 study_by command.Direct files rate shown = directed files shown
 study_by command.Replay files rate shown = replayed files shown
 study_by command.Link files rate shown = option_and_then (λ r. linked files (Link r) shown) rate
 study_by command.Forward files rate shown = option_and_then (λ r. linked files (Forward r) shown) rate
+study_by command.Size files rate shown = sized files rate shown
 study_by other files rate shown = None
 
 -- the study that the options ask for, if the replayer has no arguments for them
 abbrev pub study_asked : Options → Option Study
-study_asked o = if has_words o then None else study_by o.command o.files.items (link_rate o.rate o.overhead) (study_view o.view)
+study_asked o = if has_words o then None else study_by o.command o.files.items (link_rate o.rate o.overhead) (study_view o.command o.view (measure o.block o.sizes))
 
 -- ---- what a command line asks for
 pub data Asked : Type 0 where
@@ -140,6 +171,16 @@ link_without_a_target p c rate = refl
 forward_with_a_target : (p t c : Bor (List ℕ)) (rate : LinkRate) → study_by command.Forward (p ∷ t ∷ c ∷ []) (Some rate) studied.Report
     ≡ Some (record { policy = p; target = Some t; capture = c; drive = Forward rate; view = studied.Report })
 forward_with_a_target p t c rate = refl
+
+size_with_a_script : (p t c e : Bor (List ℕ)) (wanted : Measure) → study_by command.Size (p ∷ t ∷ c ∷ e ∷ []) None (studied.Size wanted) ≡ Some (scripted p (Some t) c e (studied.Size wanted))
+size_with_a_script p t c e wanted = refl
+
+size_with_a_rate : (p t c : Bor (List ℕ)) (rate : LinkRate) (wanted : Measure) → study_by command.Size (p ∷ t ∷ c ∷ []) (Some rate) (study_view command.Size view.Json wanted)
+    ≡ Some (record { policy = p; target = Some t; capture = c; drive = Link rate; view = studied.JsonSize wanted })
+size_with_a_rate p t c rate wanted = refl
+
+size_needs_a_target : (p c : Bor (List ℕ)) (rate : LinkRate) (wanted : Measure) → study_by command.Size (p ∷ c ∷ []) (Some rate) (studied.Size wanted) ≡ None
+size_needs_a_target p c rate wanted = refl
 
 a_plan_is_no_study : (p t : Bor (List ℕ)) → study_by command.Plan (p ∷ t ∷ []) None studied.Json ≡ None
 a_plan_is_no_study p t = refl

@@ -2,22 +2,60 @@
 ghost use Rattle.std.specs.Prelude.{◌≡◌, IfSome};
 ghost use Rattle.sched_defs.specs.SendTime.{IsRate};
 ghost use Rattle.study.specs.Files.{HasLinkRate};
-ghost use Rattle.zovatsemo.specs.Front.{study_view, link_rate, linked, directed, replayed, study_by, study_asked};
+ghost use Rattle.zovatsemo.specs.Front.{measure, size_view, run_view, study_view, link_rate, linked, linked_through, directed, replayed, sized, study_by, study_asked};
 
 use events_core::{MOST_OVERHEAD, MOST_RATE};
-use front_defs::{Command, Options, has_words};
+use front_defs::{Command, Options, Sizes, has_words};
 use sched_defs::LinkRate;
-use study::{Drive, Study, View};
+use size_core::{Limits, Widths};
+use study::{Drive, Measure, Study, View};
 
-/// Returns how the outcomes of a study are written.
-fn view_of(view: front_defs::View) -> View
-    ensures { result ≡ study_view view }
+/// Returns the limits and widths of `size`, on rank stores if `block`.
+fn measure(block: bool, sizes: Sizes) -> Measure
+    ensures { result ≡ measure block sizes }
+{
+    Measure {
+        stores: block,
+        limits: Limits {
+            entries: sizes.entries,
+            bits: sizes.bits,
+        },
+        widths: sizes.widths.map(|widths| Widths {
+            rank: widths.rank,
+            entry: widths.entry,
+        }),
+    }
+}
+
+/// Returns how sizes are written.
+fn size_view(view: front_defs::View, wanted: Measure) -> View
+    ensures { result ≡ size_view view wanted }
+{
+    match view {
+        front_defs::View::Json => View::JsonSize(wanted),
+        _ => View::Size(wanted),
+    }
+}
+
+/// Returns how the outcomes of a run are written.
+fn run_view(view: front_defs::View) -> View
+    ensures { result ≡ run_view view }
 {
     match view {
         front_defs::View::Report => View::Report,
         front_defs::View::Json => View::Json,
         front_defs::View::Summary => View::Summary,
         front_defs::View::JsonSummary => View::JsonSummary,
+    }
+}
+
+/// Returns how the outcomes of a command are written.
+fn view_of(command: Command, view: front_defs::View, wanted: Measure) -> View
+    ensures { result ≡ study_view command view wanted }
+{
+    match command {
+        Command::Size => size_view(view, wanted),
+        _ => run_view(view),
     }
 }
 
@@ -95,6 +133,37 @@ fn replayed<'a>(files: &[&'a str], view: View) -> Option<Study<'a>>
     }
 }
 
+/// Returns the study of a policy, a target and a capture that a link paces.
+fn linked_through<'a>(files: &[&'a str], rate: LinkRate, view: View) -> Option<Study<'a>>
+    requires range { IsRate rate }
+    ensures value { result ≡ linked_through files.now rate view }
+    ensures rate { IfSome result (λ study. HasLinkRate study.drive) }
+{
+    match files {
+        [policy, through, capture] => Some(Study {
+            policy,
+            target: Some(through),
+            capture,
+            drive: Drive::Link(rate),
+            view,
+        }),
+        _ => None,
+    }
+}
+
+/// Returns the study of `size` with these files. A link paces it if there is one, and otherwise a
+/// script.
+fn sized<'a>(files: &[&'a str], rate: Option<LinkRate>, view: View) -> Option<Study<'a>>
+    requires range { IfSome rate IsRate }
+    ensures value { result ≡ sized files.now rate view }
+    ensures rate { IfSome result (λ study. HasLinkRate study.drive) }
+{
+    match rate {
+        Some(rate) => linked_through(files, rate, view),
+        None => replayed(files, view),
+    }
+}
+
 /// Returns the study of a command with these files, and with this link if it has one.
 fn study_by<'a>(
     command: Command,
@@ -117,6 +186,7 @@ fn study_by<'a>(
             let rate = rate?;
             linked(files, Drive::Forward(rate), view)
         }
+        Command::Size => sized(files, rate, view),
         _ => None,
     }
 }
@@ -133,6 +203,10 @@ pub fn study_asked<'a>(options: &Options<'a>) -> Option<Study<'a>>
         options.command,
         &options.files,
         link_rate(options.rate, options.overhead),
-        view_of(options.view),
+        view_of(
+            options.command,
+            options.view,
+            measure(options.block, options.sizes),
+        ),
     )
 }

@@ -34,7 +34,7 @@ fn open_again(rt: &HostRuntime, name: &str) -> io::Result<Option<File>> {
 /// which the command reads them.
 pub fn tell_unread(rt: &HostRuntime, options: &Options<'_>) -> Result<(), AllocError> {
     for turn in 0..options.files.len() {
-        let Some(name) = options.files.get(file_read_at(options.command, turn)) else {
+        let Some(name) = options.files.get(file_read_at(options, turn)) else {
             break;
         };
         if let Err(error) = try_file(rt, name) {

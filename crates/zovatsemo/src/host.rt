@@ -6,10 +6,10 @@ use crate::output::{NO_OUTPUT, Output};
 use crate::progress::Watched;
 use crate::told::tell;
 use front_core::{
-    Asked, Catching, Fault, Mistake, Request, ask, fault_in, file_of, help_of, help_of_all,
-    policy_of, tell_fault, tell_mistake,
+    Asked, Catching, Fault, Mistake, Request, ask, fault_in, file_of, policy_of, tell_fault,
+    tell_mistake,
 };
-use front_defs::{Command, Options, View};
+use front_defs::{Command, Options, View, help_of, help_of_all};
 use outside_core::{FileShelf, StdSink};
 use replay_app::{NO_FORM, refuse, stop_status};
 use report_core::FaultKind;
@@ -18,6 +18,9 @@ use std::io::IsTerminal;
 use std::process::ExitCode;
 use std::{env, io};
 use tap_core::{BytesTap, DropsTap, FirstTap, OrderTap, Tap};
+
+/// Exit status: a node passed a limit of `size`.
+const PASSED: u8 = 1;
 
 /// Exit status: the arguments are malformed.
 const BAD_WORDS: u8 = 2;
@@ -98,7 +101,7 @@ fn tell_end(
     status: u8,
     sink: &Catching<Output<'_>>,
 ) -> Result<(), AllocError> {
-    if status == 0 {
+    if status == 0 || status == PASSED {
         let _ = warn(rt, options);
         return Ok(());
     }
@@ -116,7 +119,10 @@ fn tell_end(
 /// than to a terminal, or comes at the end.
 fn shows_progress(rt: &HostRuntime, request: &Request<'_>) -> bool {
     let is_last = matches!(request.options.view, View::Summary | View::JsonSummary);
-    is_last || request.output.is_some() || !rt.stdout().is_terminal()
+    is_last
+        || request.options.command.is_size()
+        || request.output.is_some()
+        || !rt.stdout().is_terminal()
 }
 
 /// Runs the requested command. If it fails, writes a message to standard error, unless `--quiet` is
@@ -134,7 +140,7 @@ fn run_told(
     let mut sink = Catching::new(alloc, below, options.command == Command::Forward)?;
     let status = front_caught(alloc, options, &mut shelf, &mut sink, taps);
     shelf.erase();
-    let is_done = status == 0 || status == 14 || status == 15;
+    let is_done = status == 0 || status == PASSED || status == 14 || status == 15;
     let is_lost = is_done && sink.release().is_err();
     let status = if is_lost { NO_OUTPUT } else { status };
     if !request.quiet {

@@ -1,5 +1,5 @@
 //! The help texts.
-use front_defs::Command;
+use crate::command::Command;
 
 /// The help text of all commands.
 const HELP: &str = "\
@@ -15,14 +15,21 @@ direct POLICY CAPTURE SCRIPT                    print what replay prints, comput
 via POLICY TOPOLOGY MAP TARGET CAPTURE SCRIPT   print what replay prints, with a map of your own
 soak SEED COUNT                                 run a generated load and print its sums
 calm POLICY TARGET                              print whether rank stores always keep the policy's order
+size POLICY TARGET CAPTURE (SCRIPT | --rate RATE)
+                                                print how deep the target's queues and how wide its ranks must be
 
 RATE is 10Mbit, 10gbit, 1.25MB or 125000 (bytes a second). The file - is standard input.
 
     --block               run on rank stores, and count the spills (not via and forward)
 -h, --help [COMMAND]      this text, or that of a command with an example
-    --json                write each event of direct, replay or link as a JSON line
+    --entry-bits B        with --rank-bits, for size: bits of an entry besides its rank, 1 to 4096
+    --json                write each event of direct, replay or link as a JSON line, or size as an object
+    --limit-entries N     for size: print the first event at which a node has more than N entries, with status 1
+    --limit-rank-bits B   for size: print the first event with a rank of more than B bits, 0 to 64, with status 1
 -o, --output FILE         write to a file that doesn't exist yet, or with - to standard output
-    --overhead BYTES      bytes that link and forward add to each packet, 0 to 65535; Ethernet has 24
+    --overhead BYTES      bytes that a link adds to each packet, 0 to 65535; Ethernet has 24
+    --rank-bits B         with --entry-bits, for size: print the memory for ranks of B bits, 1 to 4096
+    --rate RATE           for size: a link of that rate instead of a script
 -t, --tap NAME            one more line at the end of replay: bytes, order, first or drops
     --plain               write the line `fault KIND CODE PLACE` too, and no messages
     --summary[=json]      write sums of direct, replay or link instead of events
@@ -119,6 +126,21 @@ of higher rank waits in the same store.
     zovatsemo calm examples/uplink/strict examples/uplink/target
 ";
 
+/// The help text of `size`.
+const SIZE: &str = "\
+zovatsemo size POLICY TARGET CAPTURE SCRIPT [OPTION]..
+zovatsemo size POLICY TARGET CAPTURE --rate RATE [--overhead BYTES] [OPTION]..
+
+Runs the packets of a capture through the target's queues, as the script says or on a link of RATE. Prints the most
+entries of each node, its greatest rank, and the greatest difference between two ranks that are queued there at once.
+
+With --rank-bits and --entry-bits it prints the memory of all nodes too. With --limit-entries or --limit-rank-bits it
+prints the first event at which a node passes the limit, and the exit status is 1. With --block it prints the use of the
+rank stores: heads, entries in a store, and spills. With --json it prints one JSON object.
+
+    zovatsemo size examples/office/policy examples/office/target examples/office/capture --rate 1Mbit
+";
+
 /// Returns the help text of all commands.
 pub fn help_of_all() -> &'static str {
     HELP
@@ -136,5 +158,6 @@ pub fn help_of(command: Command) -> &'static str {
         Command::Via => VIA,
         Command::Soak => SOAK,
         Command::Calm => CALM,
+        Command::Size => SIZE,
     }
 }
