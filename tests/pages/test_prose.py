@@ -5,7 +5,7 @@ import pages
 import prose
 from test_check import check
 
-SPEAKING = ("crates/front_core/src", "crates/front_forms/src", "crates/zovatsemo/src")  # where the messages for people are
+SPEAKING = ("crates/front_core/src", "crates/front_defs/src", "crates/front_forms/src", "crates/zovatsemo/src")  # where the messages for people are
 
 
 def all_pages():

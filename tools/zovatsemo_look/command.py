@@ -1,15 +1,17 @@
 """The arguments of tools/look, and what they do."""
-from zovatsemo_look import assertions, belongs, guard, options, policy, program, progress, sources, table, title, units
+from zovatsemo_look import assertions, belongs, guard, options, policy, program, progress, sizes, sources, table, title, units
 from zovatsemo_look.study import Study, common_unit
 
 NAME = "look"
-DESCRIPTION = "Shows reports of direct, replay or link: a table, pictures, or a page that stands alone."
+DESCRIPTION = "Shows reports of direct, replay or link: a table, pictures, or a page that stands alone. Draws the sizes of size."
+WITH_SIZES = ("sizes", "out", "width", "dpi", "command")  # the arguments that go with --sizes
 
 
 def parser():
     """The arguments that are taken."""
     words = options.parser(NAME, DESCRIPTION)
-    words.add_argument("report", metavar="REPORT", help="the report of a run; - is standard input")
+    words.add_argument("report", metavar="REPORT", nargs="?", help="the report of a run; - is standard input")
+    words.add_argument("--sizes", metavar="FILE", help="draw the JSON of `size` in FILE instead of a report; - is standard input")
     words.add_argument("--capture", metavar="CAPTURE", help="the run's capture, for bytes and times")
     words.add_argument("--against", metavar="REPORT2", help="a second report of the same capture, to compare")
     words.add_argument("--policy", metavar="POLICY", help="the run's policy, for classes and for leaves without packets")
@@ -24,6 +26,10 @@ def parser():
 
 def check_words(words, given):
     """Rejects arguments that don't go together."""
+    if given.sizes:
+        check_sizes_words(words, given)
+    elif given.report is None:
+        words.error("REPORT is missing")
     options.check_picture_words(words, given)
     for word, value in (("--against-command", given.against_command), ("--against-policy", given.against_policy)):
         if value and not given.against:
@@ -32,6 +38,15 @@ def check_words(words, given):
         words.error("standard input has one report, and not two")
     if given.rate and not given.capture:
         words.error("--rate needs --capture")
+
+
+def check_sizes_words(words, given):
+    """Rejects arguments that don't go with --sizes."""
+    if not given.out or given.out.endswith(".html"):
+        words.error("--sizes needs --out with a file whose name ends with %s" % ", ".join(options.PICTURES))
+    for action in words._actions:
+        if action.dest not in WITH_SIZES and getattr(given, action.dest, action.default) != action.default:
+            words.error("--sizes goes without %s" % (action.option_strings or [action.metavar])[-1])
 
 
 def read_study(given):
@@ -96,4 +111,4 @@ def main(arguments):
     given.name, given.words = NAME, arguments
     check_words(words, given)
     asserted = options.parsed_assertions(words, given)
-    return guard.run(NAME, lambda: look(given, asserted))
+    return guard.run(NAME, lambda: sizes.write(given) if given.sizes else look(given, asserted))
