@@ -34,7 +34,7 @@ class Mistakes(unittest.TestCase):
         self.assertEqual(self.told("exit 0\n"), (1, "%d mistakes, %d wrong" % (COUNT, COUNT - QUIET)))
 
     def test_another_status(self):
-        self.assertEqual(self.told("%s \"$@\"\nexit 1\n" % self.front()), (1, "%d mistakes, %d wrong" % (COUNT, COUNT)))
+        self.assertEqual(self.told("%s \"$@\"\nexit 99\n" % self.front()), (1, "%d mistakes, %d wrong" % (COUNT, COUNT)))
 
     def test_the_line_of_a_fault(self):
         status, told = self.told("%s \"$@\"\nstatus=$?\necho fault words 0 0\nexit $status\n" % self.front())
