@@ -75,7 +75,7 @@ fn a_run_is_printed(rt: HostRuntime) -> Result<(), Fail> {
     summary.departed(&mut sink, 2, &departure(1, 100), "root", &[0], Some(12))?;
     let leaves = label(rt.alloc(), "root", 2)?;
     let classes = label(rt.alloc(), "web", 1)?;
-    let groups = groups_of(rt.alloc(), &summary, &leaves, &classes)?;
+    let groups = groups_of(rt.alloc(), &mut summary, &leaves, &classes)?;
     let text = put_text(rt.alloc(), &groups)?;
     let expected = joined(rt.alloc(), &TEXT)?;
     assert_eq!(rt; text.as_slice(), expected.as_slice());

@@ -4,7 +4,7 @@ use packet_defs::{BLANK, Departed, Packet};
 use sched_defs::LinkRate;
 use sched_run::Recorder;
 use std::test::Fail;
-use summary_core::{Delays, Summary, percentiles};
+use summary_core::{Delays, Summary, groups_of};
 
 /// Returns a packet of the first class.
 pub(crate) fn packet(number: u64, len: u32, moment: u64) -> Packet {
@@ -47,11 +47,9 @@ fn a_played_run_is_summed(rt: HostRuntime) -> Result<(), Fail> {
     assert_eq!(rt; all.throughput(), Some(1_000));
     assert_eq!(rt; summary.leaf(0), Some(all));
     assert_eq!(rt; summary.class(1), None);
-    let mut lists = summary.into_delays();
-    assert_eq!(rt; lists.len(), 1);
-    let found = percentiles(&mut lists[0]);
+    let groups = groups_of(rt.alloc(), &mut summary, &[], &[])?;
     assert_eq!(rt;
-        found,
+        groups.all.delays,
         Some(Delays {
             minimum: 0,
             median: 0,
@@ -60,5 +58,8 @@ fn a_played_run_is_summed(rt: HostRuntime) -> Result<(), Fail> {
             maximum: 99_999_998,
         })
     );
+    let lists = summary.into_delays();
+    assert_eq!(rt; lists.len(), 1);
+    assert_eq!(rt; lists[0].len(), 2);
     Ok(())
 }

@@ -84,9 +84,9 @@ fn sums_text(
     form: Form,
     lines: &Lines,
     leaves: &[Label],
-    summary: &Summary,
+    summary: &mut Summary,
 ) -> Result<Vec<u8>, AllocError>
-    ensures { IfOk result (λ text. IsTextOf form summary.now leaves.now (held_labels lines.now.held)
+    ensures { IfOk result (λ text. IsTextOf form summary.old leaves.now (held_labels lines.now.held)
         text.items) }
 {
     let classes = class_labels(alloc, lines)?;
@@ -104,18 +104,18 @@ pub fn tell_sums<K: Sink>(
     form: Form,
     lines: &Lines,
     leaves: &[Label],
-    summary: &Summary,
+    summary: &mut Summary,
     ending: Ending,
     sink: &mut K,
 ) -> Result<Status, Stop>
-    ensures room { IsTrue summary.now.whole ⊎
+    ensures room { IsTrue summary.old.whole ⊎
         LacksRoom (Unit {0}) result (K.written sink.old) (K.written sink.new) }
-    ensures status { IsTrue summary.now.whole → IfOk result (λ s. s ≡ run_status ending) }
-    ensures text { IsTrue summary.now.whole → OnOk result
-        (AreSumsWritten form summary.now leaves.now (held_labels lines.now.held) ending
+    ensures status { IsTrue summary.old.whole → IfOk result (λ s. s ≡ run_status ending) }
+    ensures text { IsTrue summary.old.whole → OnOk result
+        (AreSumsWritten form summary.old leaves.now (held_labels lines.now.held) ending
         (Appended (K.written sink.old) (K.written sink.new))) }
-    ensures part { IsTrue summary.now.whole → OnErr result
-        (AreSumsWritten form summary.now leaves.now (held_labels lines.now.held) ending
+    ensures part { IsTrue summary.old.whole → OnErr result
+        (AreSumsWritten form summary.old leaves.now (held_labels lines.now.held) ending
         (AppendedPrefix (K.written sink.old) (K.written sink.new)) ⊎ Appended (K.written sink.old) (K.written sink.new) []) }
     ensures statuses { IfOk result (λ s. (s ≡ run_status ending) ⊎ (s ≡ Status.LateStart)) }
     ensures sink_cause { IsErrOf result Stop.Sink → Rose (K.faults sink.old) (K.faults sink.new) }

@@ -166,13 +166,13 @@ fn view_sums<S: Shelf, K: Sink, F: Fabric>(
     let summary = Summary::new(alloc, sum_rate(task.pace), table, leaves.labels.len())?;
     let recorded = record(alloc, policy, place, task, summary, shelf, sink, fabric)?;
     match recorded {
-        Recorded::Whole(ending, summary) => {
+        Recorded::Whole(ending, mut summary) => {
             tell_sums(
                 alloc,
                 form,
                 &judged.lines,
                 &leaves.labels,
-                &summary,
+                &mut summary,
                 ending,
                 sink,
             )

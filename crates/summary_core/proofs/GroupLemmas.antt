@@ -1,5 +1,5 @@
 -- Lists of groups that grow.
-use Rattle.std.proofs.Common.{◌≡◌, ℕ, zero, suc, List, [], ◌∷◌, ◌++◌, length, IfSome}
+use Rattle.std.proofs.Common.{ℕ, zero, suc, List, [], ◌∷◌, ◌++◌, length, IfSome}
 use Rattle.std.specs.Prelude.{slice_get}
 
 -- a fact of each item, with one more item

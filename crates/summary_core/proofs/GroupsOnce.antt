@@ -1,11 +1,9 @@
 -- The groups of a run, and the text of each rendering, are determined by its outcomes.
-use Rattle.std.proofs.Common.{◌≡◌, ◌+◌, ℕ, zero, suc, Option, None, Some, List, [], ◌∷◌, length, map, refl, sym, ap, ◌∙◌, subst, arith}
+use Rattle.std.proofs.Common.{◌≡◌, ◌+◌, ℕ, suc, Option, None, Some, List, [], ◌∷◌, map, refl, sym, ap, ◌∙◌, subst, arith}
 use Rattle.std.specs.Prelude.{IfSome, slice_get}
 use Rattle.sched_defs.specs.Events.{Outcome}
 use Rattle.sched_defs.specs.declared.rate.LinkRate.{LinkRate}
-use Rattle.summary_core.specs.declared.counts.Counts.{Counts}
 use Rattle.summary_core.specs.declared.delays.Delays.{Delays}
-use Rattle.summary_core.specs.declared.fairness.Fairness.{Fairness}
 use Rattle.summary_core.specs.declared.group.Figures.{Figures}
 use Rattle.summary_core.specs.declared.group.Group.{Group}
 use Rattle.summary_core.specs.declared.group.Groups.{Groups}
@@ -19,7 +17,7 @@ use Rattle.summary_core.specs.Parts.{part_at}
 use Rattle.summary_core.specs.Figures.{HasPercentiles}
 use Rattle.summary_core.specs.Fairness.{fairness_of}
 use Rattle.summary_core.specs.Summing.{ClassEvent, class_events}
-use Rattle.summary_core.specs.OfRun.{delays_of, AreFiguresOf, AreGroupsOf, AreSumsOf, AreSame}
+use Rattle.summary_core.specs.OfRun.{delays_of, AreFiguresOf, AreSumsOf, AreSame}
 use Rattle.std.specs.Prelude.{slice_index_or}
 use Rattle.summary_core.proofs.SortedOnce.{sorted_once}
 

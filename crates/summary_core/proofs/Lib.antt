@@ -5,5 +5,11 @@ pub mod RunGroups
 pub mod ShareLemmas
 pub mod Squares
 pub mod PartDelays
+pub mod Reordered
+pub mod JoinedBits
 pub mod SortedOnce
 pub mod GroupsOnce
+pub mod Slots
+pub mod Ordered
+pub mod Ranks
+pub mod Selected

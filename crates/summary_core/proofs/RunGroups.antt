@@ -1,10 +1,10 @@
 -- The groups of a summary are those of the outcomes that it summed.
-use Rattle.std.proofs.Common.{◌≡◌, ℕ, zero, suc, ◌<◌, ◌≤◌, Bool, if◌then◌else◌, Option, None, Some, Vec, Global, List, [], ◌∷◌, ◌++◌, length, map, IfSome, refl, sym, ap, subst, ◌∙◌, arith}
-use Rattle.std.specs.Prelude.{IsTrue, option_map, unwrap_or, slice_get, replicate}
+use Rattle.std.proofs.Common.{◌≡◌, ℕ, zero, suc, ◌<◌, Bool, if◌then◌else◌, Option, None, Some, Vec, Global, List, [], ◌∷◌, ◌++◌, length, IfSome, refl, ap, subst, ◌∙◌, arith}
+use Rattle.std.specs.Prelude.{option_map, unwrap_or, slice_get, replicate}
 use Rattle.std.specs.List.{AllByRecursion}
 use Rattle.std.proofs.lemmas.List.{length-map}
 use Rattle.std.proofs.lemmas.Option.{slice_get_within}
-use Rattle.sched_defs.specs.Events.{Outcome, outcomes, CanMake}
+use Rattle.sched_defs.specs.Events.{outcomes}
 use Rattle.sched_defs.specs.SourceState.{start}
 use Rattle.sched_defs.specs.declared.rate.LinkRate.{LinkRate}
 use Rattle.summary_core.specs.declared.counts.Counts.{Counts}
@@ -17,9 +17,9 @@ use Rattle.summary_core.specs.declared.part.Kind.{Kind}
 use Rattle.summary_core.specs.declared.part.Kind.TheVariants as kind
 use Rattle.summary_core.specs.declared.summary.Summary.{Summary}
 use Rattle.summary_core.specs.Counting.{no_counts}
-use Rattle.summary_core.specs.Summing.{ClassEvent, Timestamps, no_timestamps, events_by, class_events, counted, any_class, is_class, is_at_leaf, items_at, delays_in}
+use Rattle.summary_core.specs.Summing.{ClassEvent, no_timestamps, events_by, class_events, counted, any_class, is_class, is_at_leaf, items_at, delays_in}
 use Rattle.summary_core.specs.JoinedSums.{same_events}
-use Rattle.summary_core.specs.Summary.{timestamp_at, AddsEvents, Sums, SumsNothing}
+use Rattle.summary_core.specs.Summary.{timestamp_at, AddsEvents, SumsNothing}
 use Rattle.summary_core.specs.Lists.{list_at}
 use Rattle.summary_core.specs.Parts.{is_in, part_at, joined}
 use Rattle.summary_core.specs.Figures.{HasPercentiles, gathered, counts_in, AreFigures, AreGroups}

@@ -1,9 +1,8 @@
 -- The totals of shares, leaf by leaf.
-use Rattle.std.proofs.Common.{◌≡◌, ℕ, ◌+◌, ◌*◌, ◌<◌, ◌≤◌, ◌^◌, Bool, true, false, if◌then◌else◌, List, [], ◌∷◌, length, refl, sym, ap, ◌∙◌, arith}
+use Rattle.std.proofs.Common.{◌≡◌, ℕ, ◌+◌, ◌≤◌, ◌^◌, Bool, true, false, if◌then◌else◌, List, [], ◌∷◌, length, refl, arith}
 use Rattle.std.proofs.lemmas.Bool.{le-leb}
 use Rattle.std.specs.Prelude.{nat_le, ◌||◌}
 use Rattle.summary_core.specs.declared.group.Group.{Group}
-use Rattle.summary_core.specs.declared.fairness.Fairness.{Fairness}
 use Rattle.summary_core.specs.declared.fairness.Fairness.TheVariants.{TooLarge}
 use Rattle.summary_core.specs.Fairness.{has_packets, share_of, shares, total, squares, index_from}
 

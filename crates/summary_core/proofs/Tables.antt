@@ -1,7 +1,8 @@
 -- Lists of delays by index.
-use Rattle.std.proofs.Common.{◌≡◌, ℕ, zero, suc, Bool, true, false, if◌then◌else◌, Option, None, Some, Vec, Global, List, [], ◌∷◌, ◌++◌, slice_get, slice_set, refl, sym, ap, ◌∙◌, arith, append-nil}
+use Rattle.std.proofs.Common.{◌≡◌, ℕ, zero, suc, Bool, true, false, if◌then◌else◌, Option, None, Some, Vec, Global, List, [], ◌∷◌, ◌++◌, slice_get, slice_set, refl, sym, ap, ◌∙◌, arith, append-nil, ◌≤◌, length}
 use Rattle.std.specs.Prelude.{option_map}
 use Rattle.summary_core.specs.Summing.{items_at}
+use Rattle.summary_core.specs.Lists.{list_at}
 
 -- nothing is added at any index
 pub none_more : (o : Option (List ℕ)) → o ≡ option_map (λ l. l ++ []) o
@@ -31,3 +32,9 @@ none_longer (v ∷ vs) zero more e i t same = cc
 none_longer (v ∷ vs) (suc k) more e zero true same = let e : 0 ≡ suc k = same refl in absurd (omega (arith, e))
 none_longer (v ∷ vs) (suc k) more e zero false same = none_more (Some v.items)
 none_longer (v ∷ vs) (suc k) more e (suc i) t same = none_longer vs k more e i t (λ is_true. omega (arith, same is_true))
+
+-- beyond the last list there is no delay
+pub none_past : (lists : List (Vec ℕ Global)) (i : ℕ) → length lists ≤ i → list_at lists i ≡ []
+none_past [] i most = refl
+none_past (v ∷ vs) zero most = absurd (omega (arith, most))
+none_past (v ∷ vs) (suc i) most = none_past vs i (omega (arith, most))

@@ -1,6 +1,6 @@
 -- Jain's index of fairness over the leaves: the square of the sum of the shares, over their number
 -- times the sum of their squares.
-use Rattle.std.specs.Prelude.{◌≡◌, refl, ℕ, ◌+◌, ◌*◌, ◌/◌, ◌==◌, ◌&&◌, ◌||◌, not, nat_le, max, Bool, if◌then◌else◌, List, [], ◌∷◌, length}
+use Rattle.std.specs.Prelude.{◌≡◌, refl, ℕ, ◌+◌, ◌*◌, ◌/◌, ◌==◌, ◌||◌, not, nat_le, max, Bool, if◌then◌else◌, List, [], ◌∷◌, length}
 use Rattle.summary_core.specs.declared.counts.Counts.{Counts}
 use Rattle.summary_core.specs.declared.group.Group.{Group}
 use Rattle.summary_core.specs.declared.fairness.Fairness.{Fairness}

@@ -1,5 +1,5 @@
 -- The sums and the percentiles of the parts of a run's packets.
-use Rattle.std.specs.Prelude.{◌≡◌, ◌↔◌, ℕ, Option, Some, unwrap_or, IsNone, IfSome, List, [], map, length, slice_get}
+use Rattle.std.specs.Prelude.{◌≡◌, ◌↔◌, ℕ, Option, unwrap_or, IsNone, IfSome, List, [], map, length, slice_get}
 use Rattle.summary_core.specs.Counting.{no_counts}
 use Rattle.summary_core.specs.Fairness.{fairness_of}
 use Rattle.summary_core.specs.Percentiles.{ArePercentiles}

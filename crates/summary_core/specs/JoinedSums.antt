@@ -1,5 +1,5 @@
 -- Summing outcomes in two calls gives the same sums as in one call.
-use Rattle.std.proofs.Common.{◌≡◌, ℕ, ◌==◌, Bool, if◌then◌else◌, Option, None, Some, List, [], ◌∷◌, ◌++◌, slice_get, refl, sym, ap, ◌∙◌, subst, append_assoc, append-nil}
+use Rattle.std.proofs.Common.{◌≡◌, ℕ, ◌==◌, Bool, IsTrue, if◌then◌else◌, Option, None, Some, List, [], ◌∷◌, ◌++◌, slice_get, refl, sym, ap, ◌∙◌, subst, append_assoc, append-nil}
 use Rattle.std.specs.Prelude.{option_map}
 use Rattle.sched_defs.specs.Events as run
 use Rattle.sched_defs.specs.Events.{Outcome}
@@ -89,7 +89,7 @@ pub sums_nothing : (w : Summary) → Sums w w []
 sums_nothing w = record {
   rate = refl;
   table = refl;
-  timestamps = λ n. refl;
+  timestamps = λ whole n. refl;
   sums = λ whole. record {
     whole = whole;
     table = refl;
@@ -103,14 +103,16 @@ sums_nothing w = record {
 pub sums_in_turn : (w v x : Summary) (os ps : List Outcome) → Sums w v os → Sums v x ps → Sums w x (os ++ ps)
 sums_in_turn w v x os ps first second =
     let es = events_by w.rate (timestamp_at w) os in
-    let later : events_by v.rate (timestamp_at v) ps ≡ events_by w.rate (stamps_behind (timestamp_at w) os) ps =
-    ap (λ rate. events_by rate (timestamp_at v) ps) first.rate ∙ same_events w.rate (timestamp_at v) (stamps_behind (timestamp_at w) os) ps first.timestamps in
+    let behind = stamps_behind (timestamp_at w) os in
+    let kept : IsTrue x.whole → (n : ℕ) → timestamp_at v n ≡ behind n = λ whole. first.timestamps (second.sums whole).whole in
+    let later : IsTrue x.whole → events_by v.rate (timestamp_at v) ps ≡ events_by w.rate behind ps =
+    λ whole. ap (λ rate. events_by rate (timestamp_at v) ps) first.rate ∙ same_events w.rate (timestamp_at v) behind ps (kept whole) in
     record {
       rate = second.rate ∙ first.rate;
       table = second.table ∙ first.table;
-      timestamps = λ n. second.timestamps n ∙ same_behind (timestamp_at v) (stamps_behind (timestamp_at w) os) ps first.timestamps n ∙ sym (stamps-append (timestamp_at w) os ps n);
+      timestamps = λ whole n. second.timestamps whole n ∙ same_behind (timestamp_at v) behind ps (kept whole) n ∙ sym (stamps-append (timestamp_at w) os ps n);
       sums = λ whole.
           let last = second.sums whole in
-          subst (AddsEvents w x) (ap (λ (fs : List ClassEvent). es ++ fs) later ∙ sym (events_by-append w.rate (timestamp_at w) os ps))
+          subst (AddsEvents w x) (ap (λ (fs : List ClassEvent). es ++ fs) (later whole) ∙ sym (events_by-append w.rate (timestamp_at w) os ps))
           (in_turn w v x es (events_by v.rate (timestamp_at v) ps) (first.sums last.whole) last);
     }

@@ -1,6 +1,6 @@
 -- The sums of a run as one JSON object. The names of a policy have only letters, digits and `_`, so
 -- nothing is escaped.
-use Rattle.std.specs.Prelude.{◌≡◌, refl, ℕ, Option, None, Some, List, [], ◌∷◌, ◌++◌, decimal, codes}
+use Rattle.std.specs.Prelude.{◌≡◌, refl, ℕ, Option, None, Some, List, [], ◌∷◌, ◌++◌, codes}
 use Rattle.std.specs.Fmt.{digits}
 use Rattle.summary_core.specs.Numbers.{number_text, millionths_text}
 use Rattle.summary_core.specs.Counting.{throughput_of, mean_delay, jitter_of}

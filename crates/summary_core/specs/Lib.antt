@@ -1,11 +1,13 @@
 pub mod Counting
 pub mod Summing
+pub mod Timestamps
 pub mod Summary
 pub mod JoinedSums
 pub mod Recording
 pub mod Rows
 pub mod Percentiles
 pub mod Lists
+pub mod Ranks
 pub mod Parts
 pub mod Fairness
 pub mod Figures

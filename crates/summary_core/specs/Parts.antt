@@ -1,5 +1,5 @@
 -- The parts of a run's packets.
-use Rattle.std.specs.Prelude.{ℕ, zero, suc, ◌==◌, Bool, false, if◌then◌else◌, List, [], ◌++◌}
+use Rattle.std.specs.Prelude.{ℕ, zero, suc, Bool, if◌then◌else◌, List, [], ◌++◌}
 use Rattle.summary_core.specs.Summing.{any_class, is_class, is_at_leaf}
 use Rattle.summary_core.specs.declared.part.Part.{Part}
 use Rattle.summary_core.specs.declared.part.Part.TheVariants as part

@@ -1,8 +1,8 @@
 -- A summary as a recorder: outcomes add to its sums, and nothing is written.
-use Rattle.std.specs.Prelude.{◌≡◌, refl, ℕ, Option, List, [], ◌∷◌, ◌++◌, if◌then◌else◌, ◌==◌}
-use Rattle.std.proofs.Common.{◌∙◌, ap, sym}
+use Rattle.std.specs.Prelude.{◌≡◌, refl, ℕ, Option, List}
+use Rattle.std.proofs.Common.{◌∙◌}
 use Rattle.policy_defs.specs.Policy.{Policy}
-use Rattle.sched_defs.specs.Events.{Outcome, Empty}
+use Rattle.sched_defs.specs.Events.{Outcome}
 use Rattle.sched_run.specs.Recording.{AreJoined}
 use Rattle.summary_core.specs.declared.summary.Summary.{Summary}
 use Rattle.summary_core.specs.Summary.{Sums}

@@ -1,5 +1,5 @@
 -- Examples of sums.
-use Rattle.std.specs.Prelude.{◌≡◌, refl, ℕ, true, false, None, Some, map, List, [], ◌∷◌}
+use Rattle.std.specs.Prelude.{◌≡◌, refl, true, false, None, Some, map, List, [], ◌∷◌}
 use Rattle.sched_defs.specs.SendTime.{plain_rate}
 use Rattle.sched_defs.specs.Rows.{packet}
 use Rattle.sched_defs.specs.Events.{Outcome, Arrived, Departed, Dropped, Empty}

@@ -61,21 +61,19 @@ impl Counts {
         }
     }
 
-    /// Returns whether each sum has room for one more packet.
+    /// Returns whether each sum has room for one more packet. The bits of all sums of one width are
+    /// joined, because comparing each sum takes longer.
+    #[inline(always)]
     fn has_room(&self) -> bool
         ensures { IsTrue result → IsRoomy self.now }
     {
-        self.arrived < MOST
-            && self.departed < MOST
-            && self.dropped < MOST
-            && self.bytes < MOST
-            && self.queued < MOST
-            && self.queued_bytes < MOST
-            && self.delays < MOST
-            && self.delay_sum < MOST_LONG
-            && self.jitter_sum < MOST_LONG
+        let packets = self.arrived | self.departed | self.dropped | self.queued | self.delays;
+        let bytes = self.bytes | self.queued_bytes;
+        let times = self.delay_sum | self.jitter_sum;
+        (packets | bytes) < MOST && times < MOST_LONG
     }
 
+    #[inline(always)]
     fn arrive(&mut self, len: u32, moment: u64)
         requires { IsRoomy self.old }
         ensures { self.new ≡ with_arrival len moment self.old }
@@ -90,6 +88,7 @@ impl Counts {
         }
     }
 
+    #[inline(always)]
     fn take_times(&mut self, times: Times)
         requires { IsRoomy self.old }
         ensures { self.new ≡ with_times times self.old }
@@ -103,6 +102,7 @@ impl Counts {
         self.finish = self.finish.max(times.finish);
     }
 
+    #[inline(always)]
     fn depart(&mut self, len: u32, times: Option<Times>)
         requires { IsRoomy self.old }
         ensures { self.new ≡ with_departure len times self.old }
@@ -158,6 +158,7 @@ impl Counts {
 
     /// Counts an event of a packet, and returns whether the sums had room for it. A run of less
     /// than 2^32 packets always has room.
+    #[inline(always)]
     pub fn add(&mut self, event: PacketEvent) -> bool
         ensures { IsTrue result → self.new ≡ with_event event self.old }
     {

@@ -1,6 +1,7 @@
 //! The groups of a summary.
 ghost use Rattle.std.specs.Prelude.{◌≡◌, IfOk};
 ghost use Rattle.summary_core.specs.Figures.{AreGroups, HasGroups};
+ghost use Rattle.summary_core.specs.Ranks.{AreSorted};
 
 use crate::fairness::fairness_of;
 use crate::group::{Group, Groups, Label};
@@ -25,6 +26,7 @@ fn labelled(
     kind: Kind,
     labels: &[Label],
 ) -> Result<Vec<Group>, AllocError>
+    requires { AreSorted summary.now.delays.items }
     ensures { IfOk result (λ gs. AreGroups summary.now kind labels.now gs.items) }
 {
     let mut groups = Vec::new(alloc);
@@ -36,15 +38,14 @@ fn labelled(
     Ok(groups)
 }
 
-/// Returns the groups of a summary. The labels are in the order of the indices of the leaves and of
-/// the classes. The delays of one group are copied at a time, so that this takes up to 8 bytes for
-/// each departure. The error is out of memory.
-pub fn groups_of(
+/// Returns the groups of a summary with these labels.
+fn all_groups(
     alloc: Global,
     summary: &Summary,
     leaves: &[Label],
     classes: &[Label],
 ) -> Result<Groups, AllocError>
+    requires { AreSorted summary.now.delays.items }
     ensures { IfOk result (λ gs. HasGroups summary.now leaves.now classes.now gs) }
 {
     let all = summary.figures(alloc, Part::Whole)?;
@@ -57,4 +58,19 @@ pub fn groups_of(
         classes,
         fairness,
     })
+}
+
+/// Sorts the delays of each class, and returns the groups of the summary. The labels are in the
+/// order of the indices of the leaves and of the classes. No list of delays is copied. The error is
+/// out of memory.
+pub fn groups_of(
+    alloc: Global,
+    summary: &mut Summary,
+    leaves: &[Label],
+    classes: &[Label],
+) -> Result<Groups, AllocError>
+    ensures { IfOk result (λ gs. HasGroups summary.old leaves.now classes.now gs) }
+{
+    summary.sort_delays();
+    all_groups(alloc, summary, leaves, classes)
 }

@@ -15,10 +15,11 @@ mod recorder;
 mod summary;
 mod table;
 mod text;
+mod timestamps;
 mod totals;
 
 pub use counts::Counts;
-pub use delays::{Delays, percentiles};
+pub use delays::Delays;
 pub use event::{PacketEvent, Times};
 pub use fairness::{Fairness, fairness_of};
 pub use group::{Figures, Group, Groups, Label};

@@ -1,31 +1,32 @@
 //! The sums of a run.
-ghost use Rattle.std.specs.Prelude.{◌≡◌, ◌++◌, [], length, if◌then◌else◌, IfOk, OnOk};
+ghost use Rattle.std.specs.Prelude.{◌≡◌, ◌++◌, ℕ, List, [], length, if◌then◌else◌, IfOk, OnOk};
+ghost use Rattle.summary_core.specs.Ranks.{listed};
 ghost use Rattle.sched_defs.specs.Events as run;
 ghost use Rattle.tree_defs.specs.Tree.{Address};
 ghost use Rattle.packet_defs.specs.declared.packet.Packet.{Packet};
 ghost use Rattle.std.specs.List.{AllByRecursion};
 ghost use Rattle.summary_core.specs.Summing.{of_class, times_of};
-ghost use Rattle.summary_core.specs.Lists.{list_at};
 
 use crate::counts::Counts;
 use crate::delays::percentiles;
 use crate::event::{PacketEvent, Times};
 use crate::group::Figures;
 use crate::part::Part;
-use crate::table::{count_at, count_at_leaf, delay_at, reserve_at};
-use indexmap::IndexMap;
+use crate::table::{count_at, count_at_leaf, delay_at, reserve_at, sort_lists};
+use crate::timestamps::Timestamps;
 use packet_defs::{Departed, Packet};
 use sched_defs::LinkRate;
 use std::alloc::{AllocError, Global};
 
 /// Nanoseconds per second.
-const SECOND: u128 = 1_000_000_000;
+const SECOND: u64 = 1_000_000_000;
 
 /// Starts in nanoseconds stay below this number.
 const MOST_START: u128 = 1 << 126;
 
 /// Returns the times of a departure, if its start and the timestamp of its packet are known. It is
 /// an error if the rate is 0, the start is 2^126 or more, or the delay is 2^64 or more.
+#[inline(always)]
 fn times(
     rate: LinkRate,
     len: u32,
@@ -44,11 +45,11 @@ fn times(
     if delay >= 1 << 64 {
         return Err(());
     }
-    let bytes = u128::from(len) + u128::from(rate.overhead);
-    let finish = start + (bytes * SECOND).div_ceil(u128::from(rate.bytes));
+    let bytes = u64::from(len) + u64::from(rate.overhead);
+    let sending = (bytes * SECOND).div_ceil(rate.bytes);
     Ok(Some(Times {
         delay: delay as u64,
-        finish,
+        finish: start + u128::from(sending),
     }))
 }
 
@@ -64,23 +65,16 @@ fn no_lists(alloc: Global, count: usize) -> Result<Vec<Vec<u64>>, AllocError>
     Ok(lists)
 }
 
-/// Appends the list of a class, if it is wanted and there is one.
-fn append_list(
-    into: &mut Vec<u64>,
-    lists: &[Vec<u64>],
-    class: usize,
-    wanted: bool,
-) -> Result<(), AllocError>
-    ensures { OnOk result (into.new.items ≡ into.old.items ++
-        (if wanted then list_at lists.now class else [])) }
+/// Appends a class, if it is wanted.
+#[tactic(auto, using(crate::proofs::Ranks::listed_last))]
+fn add_member(members: &mut Vec<usize>, class: usize, wanted: bool) -> Result<(), AllocError>
+    ensures { OnOk result ((f : ℕ → List ℕ) → listed f members.new.items ≡
+        listed f members.old.items ++ (if wanted then f class else [])) }
 {
-    if !wanted {
-        return Ok(());
+    if wanted {
+        members.push(class)?;
     }
-    match lists.get(class) {
-        Some(list) => into.extend_from_slice(list),
-        None => Ok(()),
-    }
+    Ok(())
 }
 
 /// The sums of a run: of all packets, of the packets of each leaf, and of the packets of each
@@ -96,7 +90,7 @@ pub struct Summary {
     leaves: Vec<Counts>,
     classes: Vec<Counts>,
     delays: Vec<Vec<u64>>,
-    timestamps: IndexMap<u64, u64>,
+    timestamps: Timestamps,
     /// Whether there was room in each sum so far.
     whole: bool,
     /// Whether each call so far succeeded.
@@ -106,7 +100,9 @@ pub struct Summary {
 impl Summary {
     ghost use Rattle.std.specs.Prelude.{◌≡◌, List, ◌∷◌, [], ℕ, ◌==◌, if◌then◌else◌, Some, None, Option, slice_get, IsTrue, IfOk, OnOk};
     ghost use Rattle.summary_core.specs.Figures.{gathered, counts_in, AreFigures};
-    ghost use Rattle.summary_core.specs.Summary.{timestamp_at, AddsEvents, Stays, HoldsAlike, Sums, SumsNothing};
+    ghost use Rattle.summary_core.specs.Lists.{list_at};
+    ghost use Rattle.summary_core.specs.Ranks.{listed, AreSorted};
+    ghost use Rattle.summary_core.specs.Summary.{timestamp_at, AddsEvents, Stays, HoldsAlike, IsReordered, Sums, SumsNothing};
 
     /// Returns the sums of no packet, for a link of this rate. The table gives the
     /// index of each class's leaf among that many leaves. The error is out of memory.
@@ -126,7 +122,7 @@ impl Summary {
             leaves: Vec::from_elem(alloc, Counts::new(), leaves)?,
             classes: Vec::from_elem(alloc, Counts::new(), classes)?,
             delays: no_lists(alloc, classes)?,
-            timestamps: IndexMap::new(alloc),
+            timestamps: Timestamps::new(alloc),
             whole: true,
             live: true,
         })
@@ -167,16 +163,16 @@ impl Summary {
         self.delays
     }
 
-    /// Returns the delays of a part's classes, one class after another.
-    fn gathered(&self, alloc: Global, part: Part) -> Result<Vec<u64>, AllocError>
-        ensures { IfOk result (λ v. v.items ≡ gathered self.now part) }
+    /// Returns the classes of a part.
+    fn members(&self, alloc: Global, part: Part) -> Result<Vec<usize>, AllocError>
+        ensures { IfOk result (λ v. listed (list_at self.now.delays.items) v.items ≡
+            gathered self.now part) }
     {
-        let mut found = Vec::new(alloc);
+        let mut members = Vec::new(alloc);
         for class in 0..self.table.len() {
-            let wanted = part.has(&self.table, class);
-            append_list(&mut found, &self.delays, class, wanted)?;
+            add_member(&mut members, class, part.has(&self.table, class))?;
         }
-        Ok(found)
+        Ok(members)
     }
 
     /// Returns the sums of a part, or those of no packet if there is no such leaf or class.
@@ -191,18 +187,29 @@ impl Summary {
         found.unwrap_or(Counts::new())
     }
 
-    /// Returns the sums of a part and the percentiles of its delays. The error is out of memory.
-    pub fn figures(&self, alloc: Global, part: Part) -> Result<Figures, AllocError>
+    /// Returns the sums of a part and the percentiles of its delays. The delays of each class must
+    /// be sorted. The error is out of memory.
+    pub(crate) fn figures(&self, alloc: Global, part: Part) -> Result<Figures, AllocError>
+        requires { AreSorted self.now.delays.items }
         ensures { IfOk result (λ f. AreFigures self.now part f) }
     {
-        let mut delays = self.gathered(alloc, part)?;
+        let members = self.members(alloc, part)?;
         Ok(Figures {
             counts: self.counts(part),
-            delays: percentiles(&mut delays),
+            delays: percentiles(&self.delays, &members),
         })
     }
 
+    /// Sorts the delays of each class.
+    pub(crate) fn sort_delays(&mut self)
+        ensures same { IsReordered self.old self.new }
+        ensures sorted { AreSorted self.new.delays.items }
+    {
+        sort_lists(&mut self.delays);
+    }
+
     /// Counts an event of a packet of a class.
+    #[inline(always)]
     fn add(&mut self, class: u32, event: PacketEvent)
         ensures sums { IsTrue self.new.whole →
             AddsEvents self.old self.new (of_class class event ∷ []) }
@@ -224,18 +231,18 @@ impl Summary {
         }
     }
 
-    /// Stores the timestamp of a packet, and reserves room for its delay. The error is out of
-    /// memory.
-    fn keep(&mut self, packet: &Packet) -> Result<(), AllocError>
+    /// Stores the timestamp of a packet, and reserves room for its delay. Returns whether the
+    /// timestamp could be stored. The error is out of memory.
+    #[inline(always)]
+    fn keep(&mut self, packet: &Packet) -> Result<bool, AllocError>
         ensures alike { HoldsAlike self.old self.new }
         ensures stays { Stays self.old self.new }
-        ensures timestamps { OnOk result ((n : ℕ) → timestamp_at self.new n ≡
+        ensures timestamps { IfOk result (λ kept. IsTrue kept → (n : ℕ) → timestamp_at self.new n ≡
             (if n == packet.now.number then Some packet.now.moment else timestamp_at self.old n)) }
     {
         let queued = self.queued(packet.class);
         reserve_at(&mut self.delays, packet.class, queued.saturating_add(1))?;
-        self.timestamps.insert(packet.number, packet.moment)?;
-        Ok(())
+        self.timestamps.put(packet.number, packet.moment)
     }
 
     /// Counts a packet that arrived at its leaf. The error is out of memory.
@@ -244,7 +251,8 @@ impl Summary {
             Sums self.old self.new (run.Arrived packet.now a ranks ∷ [])) }
         ensures live { self.new.live ≡ self.old.live }
     {
-        self.keep(packet)?;
+        let kept = self.keep(packet)?;
+        self.whole = self.whole && kept;
         self.add(
             packet.class,
             PacketEvent::Arrived(packet.len, packet.moment),
@@ -267,7 +275,7 @@ impl Summary {
             Sums self.old self.new (run.Departed p a ranks start ∷ []) }
         ensures live { self.new.live ≡ self.old.live }
     {
-        let timestamp = self.timestamps.swap_remove(&departed.packet);
+        let timestamp = self.timestamps.take(departed.packet);
         match times(self.rate, departed.len, start, timestamp) {
             Ok(times) => self.add(departed.class, PacketEvent::Departed(departed.len, times)),
             Err(()) => self.whole = false,

@@ -1,0 +1,8 @@
+use Rattle.std.proofs.Common.{◌≡◌}
+use Rattle.summary_core.specs.Parts.{joined, is_in}
+use Rattle.summary_core.specs.Lists.{list_at}
+use Rattle.summary_core.specs.Ranks.{listed}
+use Rattle.summary_core.proofs.summary.Summary.members.Given as goal
+
+abbrev pub invariant-loop-class : goal.invariant-loop-class
+invariant-loop-class l = record { found : listed (list_at l.self.delays.items) l.members.items ≡ joined (is_in l.self.table.items l.part) (list_at l.self.delays.items) l.class }
