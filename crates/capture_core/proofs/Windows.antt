@@ -1,5 +1,5 @@
 -- The remaining bytes don't change while bytes move from the file into a window and out of it.
-use Rattle.std.proofs.Common.{◌≡◌, ◌≤◌, ◌+◌, ◌-◌, ℕ, Option, Some, None, List, [], ◌++◌, length, take, drop, sym, ap, ◌∙◌, arith, append_assoc, ◌<◌, min, length-drop, length-append}
+use Rattle.std.proofs.Common.{◌≡◌, ◌≤◌, ◌+◌, ◌-◌, ℕ, Option, Some, None, List, [], ◌++◌, length, take, drop, refl, sym, ap, ◌∙◌, arith, append_assoc, ◌<◌, min, length-drop, length-append}
 use Rattle.std.proofs.lemmas.List.{take-append-drop, length-take, drop-drop, drop-take, take-take, drop-append-le, nil_from_length}
 use Rattle.outside_core.specs.Files.{EndsWhereEmpty}
 use Rattle.capture_core.specs.Rest.{rest_of, IsWhole, TakesFront}
@@ -55,3 +55,17 @@ pub held-advanced : (xs : List ℕ) (at end n : ℕ) → at + n ≤ end → take
 held-advanced xs at end n h =
     let more : n + (end - (at + n)) ≡ end - at = omega arith in
     ap (take (end - (at + n))) (sym (drop-drop n at xs)) ∙ sym (drop-take n (end - (at + n)) (drop at xs)) ∙ ap (λ m. drop n (take m (drop at xs))) more
+
+-- bytes of the window that are taken in place are the first of it
+pub taken-in-place : (xs : List ℕ) (at end n : ℕ) (left : Option (List ℕ)) → at + n ≤ end → end ≤ length xs
+    → TakesFront (rest_of (take (end - at) (drop at xs)) left) (rest_of (take (end - (at + n)) (drop (at + n) xs)) left) (drop (at + n - n) (take (at + n) xs))
+taken-in-place xs at end n None h within = tt
+taken-in-place xs at end n (Some left) h within =
+    let before : at + n - n ≡ at = omega arith in
+    let some : n ≡ at + n - at = omega arith in
+    let front : drop (at + n - n) (take (at + n) xs) ≡ take (at + n - at) (drop at xs) =
+    ap (λ m. drop m (take (at + n) xs)) before ∙ drop-take at n xs ∙ ap (λ m. take m (drop at xs)) some in
+    let rest = take (end - (at + n)) (drop (at + n) xs) in
+    let halves : drop (at + n - n) (take (at + n) xs) ++ rest ≡ take (end - at) (drop at xs) =
+    ap (λ zs. zs ++ rest) front ∙ copy-moved xs xs [] (take (at + n - at) (drop at xs)) at end n refl refl h within in
+    ap (λ zs. zs ++ left) (sym halves) ∙ append_assoc (drop (at + n - n) (take (at + n) xs)) rest left

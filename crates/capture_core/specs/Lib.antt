@@ -3,3 +3,4 @@ pub mod Held
 pub mod Rest
 pub mod Passed
 pub mod Captures
+pub mod Rows

@@ -30,6 +30,10 @@ pub trait CaptureReader {
     /// The bytes that were read but not consumed.
     ghost ahead: { Self → List ℕ };
 
+    /// The captured bytes of the packet that the last call of `next_in_place` read, where its
+    /// buffer has these contents.
+    ghost captured_of: { Self → List ℕ → List ℕ };
+
     /// Nothing was consumed.
     ghost fresh: { Self → Type 0 };
 
@@ -96,6 +100,45 @@ pub trait CaptureReader {
         ensures kept { KeepsShelf S.lends S.content S.faults shelf.old shelf.new }
         ensures cause { IsErrOf result ReadError.Source → Rose (S.faults shelf.old)
             (S.faults shelf.new) };
+
+    /// Reads the next packet. `captured` returns its captured bytes, if it is given the contents of
+    /// `into` as they are after the call.
+    fn next_in_place<S: Shelf>(
+        &mut self,
+        shelf: &mut S,
+        into: &mut Vec<u8>,
+    ) -> Result<Option<LinkedFrame>, ReadError>
+        requires ready { ready self.old }
+        requires begun { IsTrue (S.begun shelf.old) }
+
+        ensures comes { IfOk result (λ o. IfSome o (λ f. Comes (left self.old (S.left shelf.old))
+            (left self.new (S.left shelf.new))
+            (packet_of f (captured_of self.new into.new.items)))) }
+        ensures ended { IfOk result (λ o. IfNone o (IsAt None (left self.old (S.left shelf.old)))) }
+        ensures over { IfOk result (λ o. IfNone o (LeavesNone (left self.old (S.left shelf.old))
+            (left self.new (S.left shelf.new)))) }
+        ensures fault { IfErr result (StopsAt (left self.old (S.left shelf.old))) }
+
+        ensures number { IfOk result (λ o. IfSome o (λ f. f.frame.number ≡ given self.old + 1)) }
+        ensures few { IfOk result (λ o. IfSome o (λ f. f.frame.number ≤ most_records)) }
+        ensures captured { IfOk result (λ o. IfSome o (λ f. f.frame.captured ≡
+            length (captured_of self.new into.new.items))) }
+        ensures short { IfOk result (λ o. IfSome o (λ f. f.frame.captured ≤ most_captured)) }
+        ensures moment { IfOk result (λ o. IfSome o (λ f. f.frame.moment < 2 ^ 62)) }
+        ensures given { IfOk result (λ o. given self.new ≡ given self.old +
+            (if is_some o then 1 else 0)) }
+        ensures ready { OnOk result (ready self.new) }
+        ensures live { IsTrue (is_live self.new) ↔ IsOk result }
+
+        ensures begun { IsTrue (S.begun shelf.new) }
+        ensures kept { KeepsShelf S.lends S.content S.faults shelf.old shelf.new }
+        ensures cause { IsErrOf result ReadError.Source → Rose (S.faults shelf.old)
+            (S.faults shelf.new) };
+
+    /// Returns the captured bytes of the packet that the last call of `next_in_place` read. `copied`
+    /// are the contents of the buffer that it was given.
+    fn captured<'b>(&'b self, copied: &'b [u8]) -> &'b [u8]
+        ensures { result.now ≡ captured_of self.now copied.now };
 
     /// Skips the next packet, and returns whether there was one. The contents of `scratch` are
     /// lost.

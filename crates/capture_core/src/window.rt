@@ -14,6 +14,9 @@ pub struct Window {
     buffer: Vec<u8>,
     at: usize,
     end: usize,
+    /// How many bytes before `at` the last call of `take_in_place` took, or `None` if it copied
+    /// them.
+    in_place: Option<usize>,
     ghost within: { at ≤ end },
     ghost inside: { end ≤ vec_len buffer },
     ghost bounded: { vec_len buffer ≤ most_held },
@@ -23,7 +26,7 @@ impl Window {
     ghost use Rattle.std.specs.Prelude.{◌≡◌, ◌≢◌, ◌+◌, ◌-◌, ◌<◌, ◌≤◌, ◌==◌, [], ◌++◌, List, ℕ, Some, None, length, min, take, drop, vec_len, IfOk, IfErr, IfSome, OnOk, OnErr, IsTrue, IsErrOf};
     ghost use Rattle.outside_core.specs.Faults.{Rose};
     ghost use Rattle.capture_core.specs.Rest.{rest_of, TakesFront, IsWhole, IsShort, Serves};
-    ghost use Rattle.capture_core.specs.Held.{held};
+    ghost use Rattle.capture_core.specs.Held.{held, bytes_taken};
     ghost use Rattle.capture_core.specs.Limits.{most_held};
     ghost use Rattle.capture_core.specs.Passed.{Passes, IsAll};
 
@@ -35,6 +38,7 @@ impl Window {
             buffer: Vec::new(alloc),
             at: 0,
             end: 0,
+            in_place: None,
         }
     }
 
@@ -224,6 +228,71 @@ impl Window {
             return Ok(());
         }
         self.take(shelf, into, most)
+    }
+
+    /// Takes `most` bytes from the front of the remaining bytes, or all if there are fewer, and
+    /// returns how many. If the window has them all, they stay in it. Otherwise they replace the
+    /// contents of `into`. In both cases `taken` returns them until the next change of the window.
+    #[inline(always)]
+    pub fn take_in_place<S: Shelf>(
+        &mut self,
+        shelf: &mut S,
+        into: &mut Vec<u8>,
+        most: usize,
+    ) -> Result<usize, ShelfError>
+        requires begun { IsTrue (S.begun shelf.old) }
+        ensures taken { OnOk result (TakesFront (rest_of (held self.old) (S.left shelf.old))
+            (rest_of (held self.new) (S.left shelf.new))
+            (bytes_taken self.new into.new.items)) }
+        ensures count { IfOk result (λ n. length (bytes_taken self.new into.new.items) ≡ n) }
+        ensures bound { IfOk result (λ n. n ≤ most) }
+        ensures short { OnOk result (IsShort (rest_of (held self.old) (S.left shelf.old))
+            (bytes_taken self.new into.new.items) most) }
+        ensures shelf { Serves S.lends S.content S.begun S.faults shelf.old shelf.new }
+        ensures cause { IsErrOf result ShelfError.Failed → Rose (S.faults shelf.old)
+            (S.faults shelf.new) }
+    {
+        if most <= self.end - self.at {
+            self.at += most;
+            self.in_place = Some(most);
+            return Ok(most);
+        }
+        into.clear();
+        self.take(shelf, into, most)?;
+        self.in_place = None;
+        Ok(into.len())
+    }
+
+    /// Returns the last `count` bytes of the buffer before the window, or all if there are fewer.
+    #[inline(always)]
+    fn before(&self, count: usize) -> &[u8]
+        ensures { result.now ≡ drop (self.now.at - count) (take self.now.at self.now.buffer.items) }
+    {
+        &self.buffer[self.at.saturating_sub(count)..self.at]
+    }
+
+    /// Returns the bytes that the last call of `take_in_place` took. `copied` are the contents of
+    /// the buffer that it was given.
+    #[inline(always)]
+    pub fn taken<'b>(&'b self, copied: &'b [u8]) -> &'b [u8]
+        ensures { result.now ≡ bytes_taken self.now copied.now }
+    {
+        match self.in_place {
+            Some(count) => self.before(count),
+            None => copied,
+        }
+    }
+
+    /// Copies the bytes that the last call of `take_in_place` took to the buffer that it was given,
+    /// unless it did so already.
+    pub fn copy_taken(&self, into: &mut Vec<u8>) -> Result<(), AllocError>
+        ensures { OnOk result (into.new.items ≡ bytes_taken self.now into.old.items) }
+    {
+        if let Some(count) = self.in_place {
+            into.clear();
+            into.extend_from_slice(self.before(count))?;
+        }
+        Ok(())
     }
 
     /// Reads the next bytes of the file if the window is empty.

@@ -2,7 +2,7 @@
 use Rattle.std.specs.Prelude.{◌≡◌, ℕ, Bool, true, false, Option, None, List}
 use Rattle.std.specs.Option.{option_map_or}
 use Rattle.pcap_defs.specs.declared.head.Head.{Head}
-use Rattle.capture_core.specs.Held.{held}
+use Rattle.capture_core.specs.Held.{held, bytes_taken}
 use Rattle.capture_core.specs.Rest.{rest_of}
 use Rattle.pcap_core.specs.declared.reader.Reader.{Reader}
 
@@ -24,6 +24,10 @@ records_given reader = reader.records
 -- the bytes that were read but not consumed
 abbrev pub bytes_held : Reader → List ℕ
 bytes_held reader = held reader.window
+
+-- the captured bytes of the record read last, where the buffer for them has these contents
+abbrev pub captured_of : Reader → List ℕ → List ℕ
+captured_of reader copied = bytes_taken reader.window copied
 
 -- no call has returned an error
 abbrev pub is_live : Reader → Bool

@@ -23,7 +23,7 @@ impl CaptureReader for Reader {
     ghost use Rattle.std.specs.Prelude.{IsSome, IsTrue};
     ghost use Rattle.pcap_defs.specs.Reading.{capture_of};
     ghost use Rattle.pcap_defs.specs.Contents.{in_capture};
-    ghost use Rattle.pcap_core.specs.Readers.{head_of, is_live, records_given, bytes_held, IsFresh};
+    ghost use Rattle.pcap_core.specs.Readers.{head_of, is_live, records_given, bytes_held, captured_of, IsFresh};
     ghost use Rattle.pcap_core.specs.Left.{contents_left};
 
     ghost contents = { λ file. in_capture (capture_of file) };
@@ -35,6 +35,8 @@ impl CaptureReader for Reader {
     ghost is_live = { is_live };
 
     ghost ahead = { bytes_held };
+
+    ghost captured_of = { captured_of };
 
     ghost fresh = { IsFresh };
 
@@ -55,7 +57,6 @@ impl CaptureReader for Reader {
         }
     }
 
-    #[inline(always)]
     fn next<S: Shelf>(
         &mut self,
         shelf: &mut S,
@@ -69,6 +70,27 @@ impl CaptureReader for Reader {
             Ok(None) => Ok(None),
             Err(fault) => Err(read_error(fault)),
         }
+    }
+
+    #[inline(always)]
+    fn next_in_place<S: Shelf>(
+        &mut self,
+        shelf: &mut S,
+        into: &mut Vec<u8>,
+    ) -> Result<Option<LinkedFrame>, ReadError> {
+        match Reader::next_in_place(self, shelf, into) {
+            Ok(Some(frame)) => Ok(Some(LinkedFrame {
+                frame,
+                link: self.link(),
+            })),
+            Ok(None) => Ok(None),
+            Err(fault) => Err(read_error(fault)),
+        }
+    }
+
+    #[inline(always)]
+    fn captured<'b>(&'b self, copied: &'b [u8]) -> &'b [u8] {
+        Reader::captured(self, copied)
     }
 
     fn pass<S: Shelf>(&mut self, shelf: &mut S, scratch: &mut Vec<u8>) -> Result<bool, ReadError> {

@@ -7,7 +7,7 @@ ghost use Rattle.pcap_defs.specs.Header.{IsHeaderFault};
 ghost use Rattle.pcap_defs.specs.Record.{Record, IsRecordFault, most_captured, most_records};
 ghost use Rattle.pcap_core.specs.Faults.{fault_in};
 ghost use Rattle.pcap_core.specs.Frames.{IsFrameOf};
-ghost use Rattle.capture_core.specs.Held.{held};
+ghost use Rattle.capture_core.specs.Held.{held, bytes_taken};
 ghost use Rattle.capture_core.specs.Rest.{rest_of, IsWhole, LeavesNothing, Serves};
 ghost use Rattle.pcap_core.specs.Rest.{TakesHeader, TakesPreface, TakesRecord};
 
@@ -82,7 +82,8 @@ fn read_record_header<S: Shelf>(
     Ok(Some(preface_in(head, count, scratch)?))
 }
 
-/// Reads the next record, after `count` records.
+/// Reads the next record, after `count` records. Its captured bytes are those that were taken last:
+/// in the window, or else in `into`.
 #[inline(always)]
 fn read_record<S: Shelf>(
     head: Head,
@@ -93,14 +94,14 @@ fn read_record<S: Shelf>(
 ) -> Result<Option<Frame>, CaptureFault>
     requires begun { IsTrue (S.begun shelf.old) }
     ensures found { IfOk result (λ o. IfSome o (λ frame.
-        (r : Record) × IsFrameOf head.nano r frame into.new.items
+        (r : Record) × IsFrameOf head.nano r frame (bytes_taken window.new into.new.items)
         × TakesRecord head.big r (rest_of (held window.old) (S.left shelf.old))
         (rest_of (held window.new) (S.left shelf.new)))) }
     ensures number { IfOk result (λ o. IfSome o (λ frame. frame.number ≡ count + 1)) }
     ensures few { IfOk result (λ o. IfSome o (λ frame. count < most_records)) }
     ensures moment { IfOk result (λ o. IfSome o (λ frame. frame.moment < 2 ^ 62)) }
     ensures captured { IfOk result (λ o. IfSome o (λ frame. frame.captured ≡
-        length into.new.items)) }
+        length (bytes_taken window.new into.new.items))) }
     ensures short { IfOk result (λ o. IfSome o (λ frame. frame.captured ≤ most_captured)) }
     ensures ended { IfOk result (λ o.
         IfNone o (IsWhole (rest_of (held window.old) (S.left shelf.old)))) }
@@ -117,9 +118,10 @@ fn read_record<S: Shelf>(
     let Some(preface) = read_record_header(head, count, window, shelf, into)? else {
         return Ok(None);
     };
-    window.take_anew(shelf, into, preface.captured as usize)?;
+    let captured = preface.captured as usize;
+    let taken = window.take_in_place(shelf, into, captured)?;
     let number = u64::from(count) + 1;
-    if into.len() < preface.captured as usize {
+    if taken < captured {
         return Err(CaptureFault::DataCut(number));
     }
     Ok(Some(Frame {
@@ -191,7 +193,7 @@ impl Reader {
     ghost use Rattle.capture_core.specs.Rest.{rest_of, IsWhole, LeavesNothing};
     ghost use Rattle.pcap_core.specs.Rest.{TakesHeader, TakesRecord};
     ghost use Rattle.pcap_core.specs.Left.{head_read};
-    ghost use Rattle.pcap_core.specs.Readers.{head_of, is_big, is_nano, records_given, bytes_held, is_live, IsFresh, rest_left};
+    ghost use Rattle.pcap_core.specs.Readers.{head_of, is_big, is_nano, records_given, bytes_held, captured_of, is_live, IsFresh, rest_left};
 
     /// Returns a reader without buffered bytes.
     pub fn new(alloc: Global) -> Reader
@@ -268,8 +270,83 @@ impl Reader {
         }
     }
 
-    /// Reads the next record, and replaces the contents of `into` by its captured bytes.
+    /// Reads the next record. `captured` returns its captured bytes, if it is given the contents of
+    /// `into` as they are after the call. They are copied to `into` only if they aren't buffered as
+    /// a whole.
     #[inline(always)]
+    pub fn next_in_place<S: Shelf>(
+        &mut self,
+        shelf: &mut S,
+        into: &mut Vec<u8>,
+    ) -> Result<Option<Frame>, CaptureFault>
+        requires started { IsSome (head_of self.old) }
+        requires live { IsTrue (is_live self.old) }
+        requires begun { IsTrue (S.begun shelf.old) }
+
+        // The remaining bytes were the spelling of a record, and then the bytes left now.
+        ensures found { IfOk result (λ o. IfSome o (λ frame.
+            (r : Record) × IsFrameOf (is_nano self.old) r frame (captured_of self.new into.new.items)
+            × TakesRecord (is_big self.old) r (rest_left self.old (S.left shelf.old))
+            (rest_left self.new (S.left shelf.new)))) }
+        ensures number { IfOk result (λ o. IfSome o (λ frame. frame.number ≡
+            records_given self.old + 1)) }
+        ensures few { IfOk result (λ o. IfSome o (λ frame. frame.number ≤ most_records)) }
+        ensures captured { IfOk result (λ o. IfSome o (λ frame. frame.captured ≡
+            length (captured_of self.new into.new.items))) }
+        ensures short { IfOk result (λ o. IfSome o (λ frame. frame.captured ≤ most_captured)) }
+        ensures moment { IfOk result (λ o. IfSome o (λ frame. frame.moment < 2 ^ 62)) }
+
+        // There is no record exactly if nothing is left, and then nothing is left for a later call.
+        ensures ended { IfOk result (λ o.
+            IfNone o (IsWhole (rest_left self.old (S.left shelf.old)))) }
+        ensures over { IfOk result (λ o. IfNone o (LeavesNothing
+            (rest_left self.old (S.left shelf.old)) (rest_left self.new (S.left shelf.new)))) }
+        ensures ends { IfSome (rest_left self.old (S.left shelf.old)) (λ left.
+            left ≡ [] → MatchResult result (λ o. o ≡ None) (λ e. fault_in e ≡ None)) }
+
+        // A returned fault is that of the remaining bytes. If they have one, an error is returned.
+        ensures fault { IfErr result (λ e. IfSome (fault_in e) (λ fault.
+            IfSome (rest_left self.old (S.left shelf.old)) (λ left.
+            IsRecordFault (is_big self.old) (records_given self.old) left fault))) }
+        ensures refused { IfSome (rest_left self.old (S.left shelf.old)) (λ left.
+            (fault : Fault) → IsRecordFault (is_big self.old) (records_given self.old) left fault → IsErr result) }
+        ensures live { IsTrue (is_live self.new) ↔ IsOk result }
+
+        ensures head { head_of self.new ≡ head_of self.old }
+        ensures given { IfOk result (λ o.
+            records_given self.new ≡ records_given self.old + (if is_some o then 1 else 0)) }
+        ensures bounded { length (bytes_held self.new) ≤ most_held }
+        ensures begun { IsTrue (S.begun shelf.new) }
+        ensures kept { KeepsShelf S.lends S.content S.faults shelf.old shelf.new }
+        ensures cause { IsErrOf result CaptureFault.ReadFault →
+            Rose (S.faults shelf.old) (S.faults shelf.new) }
+    {
+        let Some(head) = self.head else {
+            unreachable!()
+        };
+        match read_record(head, self.records, &mut self.window, shelf, into) {
+            Ok(Some(frame)) => {
+                self.records += 1;
+                Ok(Some(frame))
+            }
+            Ok(None) => Ok(None),
+            Err(fault) => {
+                self.live = false;
+                Err(fault)
+            }
+        }
+    }
+
+    /// Returns the captured bytes of the record that the last call of `next_in_place` read. `copied`
+    /// are the contents of the buffer that it was given.
+    #[inline(always)]
+    pub fn captured<'b>(&'b self, copied: &'b [u8]) -> &'b [u8]
+        ensures { result.now ≡ captured_of self.now copied.now }
+    {
+        self.window.taken(copied)
+    }
+
+    /// Reads the next record, and replaces the contents of `into` by its captured bytes.
     pub fn next<S: Shelf>(
         &mut self,
         shelf: &mut S,
@@ -317,20 +394,14 @@ impl Reader {
         ensures cause { IsErrOf result CaptureFault.ReadFault →
             Rose (S.faults shelf.old) (S.faults shelf.new) }
     {
-        let Some(head) = self.head else {
-            unreachable!()
+        let Some(frame) = self.next_in_place(shelf, into)? else {
+            return Ok(None);
         };
-        match read_record(head, self.records, &mut self.window, shelf, into) {
-            Ok(Some(frame)) => {
-                self.records += 1;
-                Ok(Some(frame))
-            }
-            Ok(None) => Ok(None),
-            Err(fault) => {
-                self.live = false;
-                Err(fault)
-            }
+        if self.window.copy_taken(into).is_err() {
+            self.live = false;
+            return Err(CaptureFault::NoMemory);
         }
+        Ok(Some(frame))
     }
 
     /// Skips the next record, and returns whether there was one. The contents of `scratch` are

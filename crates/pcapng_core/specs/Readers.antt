@@ -27,6 +27,11 @@ packets_given reader = reader.packets
 abbrev pub bytes_held : NgReader → List ℕ
 bytes_held reader = held reader.window
 
+-- the captured bytes of the packet read last, where the buffer for them has these contents: all are
+-- copied
+abbrev pub captured_of : NgReader → List ℕ → List ℕ
+captured_of reader copied = copied
+
 -- no call has returned an error
 abbrev pub is_live : NgReader → Bool
 is_live reader = reader.live

@@ -22,7 +22,7 @@ fn read_error(fault: NgFault) -> ReadError
 impl CaptureReader for NgReader {
     ghost use Rattle.std.specs.Prelude.{IsTrue};
     ghost use Rattle.pcapng_defs.specs.NgContents.{in_ng_capture};
-    ghost use Rattle.pcapng_core.specs.Readers.{is_live, packets_given, bytes_held, IsFresh};
+    ghost use Rattle.pcapng_core.specs.Readers.{is_live, packets_given, bytes_held, captured_of, IsFresh};
     ghost use Rattle.pcapng_core.specs.Left.{contents_left};
 
     ghost contents = { in_ng_capture };
@@ -34,6 +34,8 @@ impl CaptureReader for NgReader {
     ghost is_live = { is_live };
 
     ghost ahead = { bytes_held };
+
+    ghost captured_of = { captured_of };
 
     ghost fresh = { IsFresh };
 
@@ -63,6 +65,19 @@ impl CaptureReader for NgReader {
             Ok(given) => Ok(given),
             Err(fault) => Err(read_error(fault)),
         }
+    }
+
+    fn next_in_place<S: Shelf>(
+        &mut self,
+        shelf: &mut S,
+        into: &mut Vec<u8>,
+    ) -> Result<Option<LinkedFrame>, ReadError> {
+        CaptureReader::next(self, shelf, into)
+    }
+
+    #[inline(always)]
+    fn captured<'b>(&'b self, copied: &'b [u8]) -> &'b [u8] {
+        copied
     }
 
     fn pass<S: Shelf>(&mut self, shelf: &mut S, scratch: &mut Vec<u8>) -> Result<bool, ReadError> {

@@ -19,9 +19,9 @@ resolved_of arrivals = policy_of arrivals.classifier
 abbrev pub given_by : {R S : Type 0} → (R → ℕ) → Arrivals R S → ℕ
 given_by given arrivals = given arrivals.reader
 
--- the captured bytes of the last packet read
-abbrev pub captured_by : {R S : Type 0} → Arrivals R S → List ℕ
-captured_by arrivals = arrivals.bytes.items
+-- the captured bytes of the last packet read, in the reader's window or in the buffer
+abbrev pub captured_by : {R S : Type 0} → (R → List ℕ → List ℕ) → Arrivals R S → List ℕ
+captured_by captured arrivals = captured arrivals.reader arrivals.bytes.items
 
 -- the contents left of the capture, by its reader, or none after the end
 abbrev pub contents_of : {R S : Type 0} → (R → Option (List ℕ) → Option Contents) → Arrivals R S → Option (List ℕ) → Option Contents

@@ -1,7 +1,7 @@
 -- The meaning of a capture's packets, in either format.
 use Rattle.std.specs.Prelude.{ℕ, Bool, Option, option_map, List, IsSome, IsTrue}
 use Rattle.pcap_defs.specs.Contents.{Contents}
-use Rattle.pcap_core.specs.Readers.{head_of, is_live, records_given}
+use Rattle.pcap_core.specs.Readers.{head_of, is_live, records_given, captured_of}
 use Rattle.pcap_core.specs.Left.{contents_left}
 use Rattle.pcapng_core.specs.Readers as blocks
 use Rattle.pcapng_core.specs.Left as blocks_left
@@ -29,8 +29,8 @@ given_by (Blocks arrivals) = one.given_by blocks.packets_given arrivals
 
 -- the captured bytes of the last packet read
 abbrev pub captured_by : {S : Type 0} → CapturePackets S → List ℕ
-captured_by (Classic arrivals) = one.captured_by arrivals
-captured_by (Blocks arrivals) = one.captured_by arrivals
+captured_by (Classic arrivals) = one.captured_by captured_of arrivals
+captured_by (Blocks arrivals) = one.captured_by blocks.captured_of arrivals
 
 -- the contents left of the capture, if the bytes left of the file are known to the contract
 abbrev pub contents_of : {S : Type 0} → CapturePackets S → Option (List ℕ) → Option Contents

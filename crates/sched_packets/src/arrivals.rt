@@ -77,7 +77,7 @@ impl<'a, R: CaptureReader + Drop, S: Shelf> Arrivals<'a, R, S> {
         ensures next { IfOk result (λ o. IfSome o (λ link. IsNext (resolved_of self.old)
             (given_by R.given self.old)
             (contents_of R.left self.old (S.left source.old)) (contents_of R.left self.new (S.left source.new))
-            link packet.new (captured_by self.new))) }
+            link packet.new (captured_by R.captured_of self.new))) }
         ensures ended { IfOk result (λ o. IfNone o (IsAt None
             (contents_of R.left self.old (S.left source.old)))) }
         ensures over { IfOk result (λ o. IfNone o (contents_of R.left self.new (S.left source.new) ≡
@@ -95,9 +95,10 @@ impl<'a, R: CaptureReader + Drop, S: Shelf> Arrivals<'a, R, S> {
         if self.over {
             return Ok(None);
         }
-        match self.reader.next(source, &mut self.bytes)? {
+        match self.reader.next_in_place(source, &mut self.bytes)? {
             Some(read) => {
-                put_packet(&self.classifier, &read, &self.bytes, packet);
+                let captured = self.reader.captured(&self.bytes);
+                put_packet(&self.classifier, &read, captured, packet);
                 Ok(Some(read.link))
             }
             None => {
@@ -139,8 +140,8 @@ impl<'a, R: CaptureReader + Drop, S: Shelf> Arrivals<'a, R, S> {
     /// Returns the captured bytes of the last packet read, unless it was skipped.
     #[inline(always)]
     pub fn captured(&self) -> &[u8]
-        ensures { result.now ≡ captured_by self.now }
+        ensures { result.now ≡ captured_by R.captured_of self.now }
     {
-        &self.bytes
+        self.reader.captured(&self.bytes)
     }
 }

@@ -4,7 +4,7 @@ use Rattle.std.specs.Prelude.{false}
 use Rattle.pcap_defs.specs.declared.head.Head.{Head}
 use Rattle.pcap_core.specs.Readers.{is_big}
 use Rattle.pcap_core.proofs.Records.{record-sound}
-use Rattle.pcap_core.proofs.reader.Reader.next.Goals as goal
+use Rattle.pcap_core.proofs.reader.Reader.next_in_place.Goals as goal
 
 pub returns-in-Ok-Some-clause-refused : goal.returns-in-Ok-Some-clause-refused
 returns-in-Ok-Some-clause-refused g c =
