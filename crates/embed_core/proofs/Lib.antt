@@ -7,6 +7,7 @@ pub mod BlockStarts
 pub mod ChildImages
 pub mod MapSteps
 pub mod LiftSteps
+pub mod DepthSteps
 pub mod LaneLifts
 pub mod PickedChildren
 pub mod ImageOrders

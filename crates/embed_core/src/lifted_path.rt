@@ -1,5 +1,5 @@
 //! Paths to leaves, lifted into a target in advance.
-ghost use Rattle.std.specs.Prelude.{◌≡◌, ◌+◌, ◌<◌, length, map, slice_index, IfOk};
+ghost use Rattle.std.specs.Prelude.{◌≡◌, ◌+◌, ◌<◌, ◌≤◌, length, map, slice_index, IfOk};
 ghost use Rattle.std.specs.List.{AllByRecursion};
 ghost use Rattle.tree_defs.specs.Tree.{LeadsToLeaf};
 ghost use Rattle.embed_defs.specs.GoodMaps.{IsGoodMap};
@@ -8,13 +8,17 @@ ghost use Rattle.embed_core.specs.Lanes.{IsLaneTo};
 use crate::map::{Map, lift};
 use crate::way::Way;
 use std::alloc::{AllocError, Global};
+use tree_core::Taken;
 
 /// The image of a leaf, and for each rank that a lift has along it, the step of the path whose rank
-/// it is.
+/// it is. For the way back, also the leaf's address, and for each node on the path, the depth of its
+/// image.
 #[derive(Drop)]
 pub struct LiftedPath {
     image: Vec<u32>,
     steps: Vec<u64>,
+    address: Vec<u32>,
+    depths: Vec<u64>,
 }
 
 impl LiftedPath {
@@ -33,7 +37,13 @@ impl LiftedPath {
         let mut image = vec![in alloc; 0; height]?;
         let mut steps = vec![in alloc; 0; height + 1]?;
         lift(map, &Steps { address }, &mut image, &mut steps);
-        Ok(LiftedPath { image, steps })
+        let depths = map.depths(alloc, address)?;
+        Ok(LiftedPath {
+            image,
+            steps,
+            address: address.to_vec(alloc)?,
+            depths,
+        })
     }
 
     /// Returns the leaf's image.
@@ -53,6 +63,27 @@ impl LiftedPath {
         for place in 0..lifted.len() {
             lifted[place] = ranks[steps[place] as usize];
         }
+    }
+
+    /// Writes the address of the leaf to `taken`, and for each node on the path to it, the rank at
+    /// its image's depth.
+    #[inline(always)]
+    pub fn pick(&self, ranks: &[u64], taken: &mut Taken)
+        requires within { AllByRecursion (λ depth. depth < length ranks.now) self.now.depths.items }
+        requires whole { length self.now.depths.items ≡ length self.now.address.items + 1 }
+        requires room { length self.now.address.items ≤ taken.old.room }
+        ensures digits { taken.new.digits ≡ self.now.address.items }
+        ensures ranks { taken.new.ranks ≡ map (slice_index ranks.now) self.now.depths.items }
+        ensures room { taken.new.room ≡ taken.old.room }
+    {
+        let address = self.address.as_slice();
+        let depths = self.depths.as_slice();
+        let last = address.len();
+        taken.clear();
+        for step in 0..last {
+            taken.step(address[step], ranks[depths[step] as usize]);
+        }
+        taken.last(ranks[depths[last] as usize]);
     }
 }
 

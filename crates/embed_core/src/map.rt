@@ -1,5 +1,5 @@
 //! Maps of a topology into a complete tree: the canonical one, or a given one.
-ghost use Rattle.std.specs.Prelude.{◌≡◌, ◌+◌, ◌≤◌, ◌++◌, length, replicate, drop, IfOk, MatchOption, Some, None, Err};
+ghost use Rattle.std.specs.Prelude.{◌≡◌, ◌+◌, ◌≤◌, ◌++◌, length, replicate, drop, IfOk, OnOk, MatchOption, Some, None, Err};
 ghost use Rattle.tree_defs.specs.Tree.{nodes, depth as levels, root_of, trees_of, LeadsToLeaf, SameShape, most_nodes};
 ghost use Rattle.tree_defs.specs.Topology.{IsBranched, complete};
 ghost use Rattle.tree_core.specs.Shape.{topology};
@@ -14,6 +14,7 @@ ghost use Rattle.embed_defs.specs.Lift.{lift_ranks, picked_ranks};
 ghost use Rattle.embed_defs.specs.GoodMaps.{IsGoodMap, IsDeep, IsNested};
 ghost use Rattle.embed_core.specs.Range.{levels_of, FitsInLevels};
 ghost use Rattle.embed_core.specs.Picks.{IsLeafImage, PicksOnto};
+ghost use Rattle.embed_core.specs.Lanes.{image_depths};
 
 use crate::block::block_start;
 use crate::needs::Needs;
@@ -170,6 +171,38 @@ impl Map {
         ensures root { result.now ≡ root_of self.now }
     {
         &self.image
+    }
+
+    /// Returns the depth of the image of each node on the path to a leaf. The error means out of
+    /// memory.
+    pub(crate) fn depths(&self, alloc: Global, address: &[u32]) -> Result<Vec<u64>, AllocError>
+        requires leaf { LeadsToLeaf self.now address.now }
+        ensures depths { IfOk result (λ v. v.items ≡ image_depths self.now address.now) }
+    {
+        let mut depths = Vec::new(alloc);
+        self.depths_from(0, address, &mut depths)?;
+        Ok(depths)
+    }
+
+    /// Appends the depth of the image of each node on the path to a leaf. The path is followed from
+    /// one of its steps on.
+    fn depths_from(
+        &self,
+        step: usize,
+        address: &[u32],
+        depths: &mut Vec<u64>,
+    ) -> Result<(), AllocError>
+        requires leaf { LeadsToLeaf self.now (drop step address.now) }
+        requires within { step ≤ length address.now }
+        ensures depths { OnOk result (depths.new.items ≡ depths.old.items ++
+            image_depths self.now (drop step address.now)) }
+    {
+        depths.push(self.depth() as u64)?;
+        if step < address.len() {
+            let child = &self.children[address[step] as usize];
+            child.depths_from(step + 1, address, depths)?;
+        }
+        Ok(())
     }
 
     /// Writes the image of the leaf at the end of a path to `digits`, and the lifted ranks to

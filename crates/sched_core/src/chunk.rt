@@ -1,7 +1,7 @@
 //! Slots for packets whose numbers are near each other.
-ghost use Rattle.std.specs.Prelude.{◌≡◌, ◌%◌, ◌≤◌, ◌<◌, ◌&&◌, ◌==◌, ℕ, None, Some, if◌then◌else◌, true, IsTrue, IfSome, IfNone, IfOk, OnErr};
+ghost use Rattle.std.specs.Prelude.{◌≡◌, ◌%◌, ◌≤◌, ◌<◌, ◌&&◌, ◌==◌, ℕ, None, Some, if◌then◌else◌, true, IsTrue, IfSome, IfNone, IfOk, OnOk, OnErr};
 ghost use Rattle.std.specs.List.{HoldsAt};
-ghost use Rattle.std.specs.Vec.{vec_len};
+ghost use Rattle.std.specs.Vec.{vec_len, vec_capacity};
 ghost use Rattle.sched_core.specs.Slots.{packet_in, stands_at, filled_among, are_ordered, place_behind};
 
 use crate::slot::{Slot, WIDTH};
@@ -48,15 +48,30 @@ impl Chunk {
         }
     }
 
-    /// Reserves room for all numbers of the chunk, if the chunk has no slots.
+    /// Makes room for one more slot.
+    #[inline(always)]
     fn make_room(&mut self) -> Result<(), AllocError>
+        ensures room { OnOk result (vec_len self.new.slots < vec_capacity self.new.slots) }
+        ensures slots { self.new.slots.items ≡ self.old.slots.items }
+        ensures filled { self.new.filled ≡ self.old.filled }
+    {
+        if self.slots.len() < self.slots.capacity() {
+            return Ok(());
+        }
+        self.grow()
+    }
+
+    /// Reserves room for more slots. If the chunk has none, reserves room for all its numbers.
+    #[inline(never)]
+    fn grow(&mut self) -> Result<(), AllocError>
+        ensures room { OnOk result (vec_len self.new.slots < vec_capacity self.new.slots) }
         ensures slots { self.new.slots.items ≡ self.old.slots.items }
         ensures filled { self.new.filled ≡ self.old.filled }
     {
         if self.slots.is_empty() {
-            self.slots.reserve_exact(WIDTH as usize)?;
+            return self.slots.reserve_exact(WIDTH as usize);
         }
-        Ok(())
+        self.slots.reserve(1)
     }
 
     /// Adds a slot if its position is after those of all others, and returns whether it was added.
@@ -71,7 +86,7 @@ impl Chunk {
             return Ok(false);
         }
         self.make_room()?;
-        self.slots.push(slot)?;
+        self.slots.push_reserved(slot);
         self.filled += 1;
         Ok(true)
     }

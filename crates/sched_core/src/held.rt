@@ -66,13 +66,7 @@ impl Held {
         if self.window.clear(number, packet) {
             return true;
         }
-        match self.strays.swap_remove(&number) {
-            Some(stray) => {
-                *packet = stray;
-                true
-            }
-            None => false,
-        }
+        take_stray(&mut self.strays, number, packet)
     }
 
     /// Returns how many packets are queued.
@@ -129,5 +123,22 @@ impl Held {
             self.put_stray(&packet)?;
         }
         self.window.stretch(number)
+    }
+}
+
+/// Removes the stray with a number, if there is one, and returns whether there was. The packet is
+/// written through `packet`.
+#[inline(never)]
+fn take_stray(strays: &mut IndexMap<u64, Packet>, number: u64, packet: &mut Packet) -> bool
+    ensures value { get nat_eq strays.old number ≡ (if result then Some packet.new else None) }
+    ensures rest { (n : ℕ) → get nat_eq strays.new n ≡ (if nat_eq number n then None else
+        get nat_eq strays.old n) }
+{
+    match strays.swap_remove(&number) {
+        Some(stray) => {
+            *packet = stray;
+            true
+        }
+        None => false,
     }
 }

@@ -23,7 +23,7 @@ use tree_core::Taken;
 /// The state that a scheduler keeps itself, whichever component owns its queues: the nodes'
 /// variables, the queued packets, how many of them are at each leaf (by node number), and the
 /// latest timestamp. The flow of each queued packet has room at its leaf, so a departure takes no
-/// memory.
+/// memory. A packet that departs is written to `leaver`, so that no blank packet is made for it.
 #[derive(Drop)]
 pub struct PolicyState<'a> {
     stations: NodeStates<'a>,
@@ -32,6 +32,7 @@ pub struct PolicyState<'a> {
     moment: u64,
     pushes: u64,
     departures: u64,
+    leaver: Packet,
     ghost room: { (n : ℕ) (p : Known) → held_at held n ≡ Some p → HasFlowRoom stations p } by { Prim.hlevel props },
 }
 
@@ -52,6 +53,7 @@ impl<'a> PolicyState<'a> {
             moment: 0,
             pushes: 0,
             departures: 0,
+            leaver: BLANK,
         })
     }
 
@@ -155,18 +157,18 @@ impl<'a> PolicyState<'a> {
         ensures policy { policy_in self.new ≡ policy_in self.old }
     {
         self.departures += 1;
-        let mut packet = BLANK;
-        if !self.held.take(number, &mut packet) {
+        if !self.held.take(number, &mut self.leaver) {
             unreachable!()
         }
-        self.stations.pop_steps(&packet, digits, ranks, self.moment);
-        let leaf = self.leaf(&packet);
+        self.stations
+            .pop_steps(&self.leaver, digits, ranks, self.moment);
+        let leaf = self.leaf(&self.leaver);
         self.filled[leaf as usize] -= 1;
         Departed {
             packet: number,
-            class: packet.class,
+            class: self.leaver.class,
             leaf,
-            len: packet.len,
+            len: self.leaver.len,
         }
     }
 

@@ -102,7 +102,9 @@ impl Window {
     #[inline(always)]
     pub(crate) fn is_sparse(&self, number: u64) -> bool {
         let span = number.saturating_sub(self.first * WIDTH);
-        self.filled > 0 && span >= self.filled.saturating_mul(3).saturating_add(SPARE)
+        span >= SPARE
+            && self.filled > 0
+            && span >= self.filled.saturating_mul(3).saturating_add(SPARE)
     }
 
     /// Returns the first packet, if the window is sparse up to a number.

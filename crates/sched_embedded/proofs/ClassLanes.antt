@@ -9,7 +9,8 @@ use Rattle.tree_defs.specs.Topology.{topology_of}
 use Rattle.policy_defs.specs.Policy.{Policy, Node, Class, no_marks}
 use Rattle.policy_defs.specs.Accepted.{IsAccepted, IsClassReady}
 use Rattle.embed_core.specs.declared.lifted_path.LiftedPath.{LiftedPath}
-use Rattle.sched_embedded.specs.Laid.{leaf_of}
+use Rattle.embed_core.specs.Lanes.{AreLeafLanes}
+use Rattle.sched_embedded.specs.Laid.{leaf_of, HasLanes}
 use Rattle.sched_embedded.proofs.MapShapes.{same_leaves, topology-same}
 
 -- a property of each lane holds with one more lane
@@ -41,3 +42,19 @@ module _ {C : Type 0} (f : C → Class) (policy : Policy) (told : List C) (n : �
       let l : n < length policy.classes = subst (λ (k : ℕ). n < k) (sym (length-map told f) ∙ ap length are) within in
       subst (LeadsToLeaf images) leaf-told
       (same_leaves policy.tree images (leaf_of policy n) (topology-same (topology_of policy.tree) images same) (ready-at policy.tree d policy.classes n accepted.classes l).leaf_address)
+
+some-within : (lanes : List LiftedPath) (n : ℕ) (lane : LiftedPath) → slice_get lanes n ≡ Some lane → n < length lanes
+some-within [] n lane e = cc
+some-within (x ∷ lanes) zero lane e = omega arith
+some-within (x ∷ lanes) (suc n) lane e = omega (arith, some-within lanes n lane e)
+
+-- the lanes of the classes lead to leaves
+pub lanes-lead : (images : Tree Address) (policy : Policy) (lanes : List LiftedPath) → IsAccepted policy → topology_of policy.tree ≡ topology_of images → HasLanes images policy lanes → AreLeafLanes images lanes
+lanes-lead images policy lanes accepted same has n lane e =
+    let d : Class = record { marks = no_marks; leaf = [] } in
+    let l : n < length policy.classes = omega (arith, some-within lanes n lane e, has.whole) in
+    record {
+      address = leaf_of policy n;
+      leaf = same_leaves policy.tree images (leaf_of policy n) same (ready-at policy.tree d policy.classes n accepted.classes l).leaf_address;
+      leads = has.each n lane e;
+    }

@@ -22,6 +22,8 @@ IsLaneTo-prop images address lane a b i = record {
   image = Coded-set (coded_list coded_ℕ) _ _ a.image b.image i;
   long = Coded-set coded_ℕ _ _ a.long b.long i;
   steps = Coded-set (coded_list coded_ℕ) _ _ a.steps b.steps i;
+  address_is = Coded-set (coded_list coded_ℕ) _ _ a.address_is b.address_is i;
+  depths = Coded-set (coded_list coded_ℕ) _ _ a.depths b.depths i;
 }
 
 pub one_way_to_have_lanes : (images : Tree Address) (policy : Policy) (lanes : List LiftedPath) → IsProp (HasLanes images policy lanes)

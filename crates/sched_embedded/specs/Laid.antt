@@ -21,12 +21,6 @@ pub record IsLaid (images : Tree Address) (arities : List ℕ) : Type 0 where
   pub good : IsGoodMap (length arities) images
   pub leaves : (a : Address) → LeadsToLeaf images a → IsLeafAddress arities (image_map images a)
 
--- a lane to a leaf
-pub record IsLane (l : Laid) (lane : LiftedPath) : Type 0 where
-  pub address : Address
-  pub leaf : LeadsToLeaf l.images address
-  pub leads : IsLaneTo l.images address lane
-
 -- the leaf of each of a policy's classes
 abbrev pub leaf_of : Policy → ℕ → Address
 leaf_of policy n = (unwrap_or (class_at policy n) (record { marks = no_marks; leaf = [] })).leaf

@@ -71,7 +71,7 @@ impl<'a, F: Fabric> Embedded<'a, F> {
     {
         let own = PolicyState::new(alloc, policy)?;
         let lanes = class_lanes(alloc, policy, &map, target.arities.len())?;
-        let embedding = Embedding::new(alloc, map, target)?;
+        let embedding = Embedding::new(alloc, map, &lanes, target)?;
         fabric.configure(embedding.arities())?;
         Ok(Embedded {
             own,
@@ -140,7 +140,7 @@ impl<'a, F: Fabric> Scheduler for Embedded<'a, F> {
 
     #[inline(always)]
     fn depart(&mut self, under: &mut F, trace: &mut Taken) -> Option<Departed> {
-        let Some(number) = self.embedding.pop(under, trace) else {
+        let Some(number) = self.embedding.pop(under, &self.lanes, trace) else {
             self.own.count_empty_departure();
             return None;
         };

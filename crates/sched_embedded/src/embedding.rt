@@ -5,11 +5,11 @@ ghost use Rattle.tree_defs.specs.SourceTree.{push, pop};
 ghost use Rattle.target_defs.specs.Family.{IsLeafAddress, HasRoomAlong, AreRanks, SameQueues};
 ghost use Rattle.embed_defs.specs.Images.{image_map};
 ghost use Rattle.embed_defs.specs.Spilling.{push_spills};
-ghost use Rattle.embed_core.specs.Lanes.{IsLaneTo};
+ghost use Rattle.embed_core.specs.Lanes.{IsLaneTo, IsLeafLane, AreLeafLanes};
 ghost use Rattle.sched_core.specs.Spills.{raised};
-ghost use Rattle.sched_embedded.specs.Laid.{IsLaid, IsLane, IsLiftOfOne, ForEachLifted, EachLiftBecomes, EachLiftPops, push_on};
+ghost use Rattle.sched_embedded.specs.Laid.{IsLaid, IsLiftOfOne, ForEachLifted, EachLiftBecomes, EachLiftPops, push_on};
 
-use embed_core::{LiftedPath, Map, pick};
+use embed_core::{LeafTable, LiftedPath, Map};
 use fabric_core::Fabric;
 use list_core::List;
 use std::alloc::{AllocError, Global};
@@ -17,10 +17,12 @@ use std::marker::Model;
 use target_core::Target;
 use tree_core::Taken;
 
-/// A tree laid into a target's tree, with room for the path to one leaf there.
+/// A tree laid into a target's tree, with room for the path to one leaf there, and a table of the
+/// target's leaves.
 #[derive(Drop)]
 pub struct Embedding {
     map: Map,
+    table: LeafTable,
     arities: List<u32>,
     digits: Vec<u32>,
     ranks: Vec<u64>,
@@ -41,17 +43,25 @@ impl Model for Embedding {
 }
 
 impl Embedding {
-    /// Returns an embedding of this map in a target. The error means out of memory.
-    pub fn new(alloc: Global, map: Map, target: &Target) -> Result<Embedding, AllocError>
+    /// Returns an embedding of this map in a target, with a table of these lanes. The error means
+    /// out of memory.
+    pub fn new(
+        alloc: Global,
+        map: Map,
+        lanes: &[LiftedPath],
+        target: &Target,
+    ) -> Result<Embedding, AllocError>
         requires laid { IsLaid map target.now.arities }
         ensures images { IfOk result (λ e. e.images ≡ map) }
         ensures arities { IfOk result (λ e. e.arities ≡ target.now.arities) }
     {
         let arities = target.arities.as_slice().to_vec(alloc)?;
+        let table = LeafTable::new(alloc, &arities, lanes)?;
         let digits = vec![in alloc; 0; arities.len()]?;
         let ranks = vec![in alloc; 0; arities.len() + 1]?;
         Ok(Embedding {
             map,
+            table,
             arities: List::from_vec(arities),
             digits,
             ranks,
@@ -68,7 +78,7 @@ impl Embedding {
     /// Returns the image of the leaf to which a lane leads.
     #[inline(always)]
     pub fn image<'a>(&self, lane: &'a LiftedPath) -> &'a [u32]
-        requires lane { IsLane self.now lane.now }
+        requires lane { IsLeafLane self.now.images lane.now }
         ensures image { result.now ≡ lane.now.image.items }
         ensures leaf { IsLeafAddress self.now.arities result.now }
     {
@@ -104,10 +114,17 @@ impl Embedding {
     }
 
     /// Pops the fabric, and sets `trace` to the digits and ranks with which the packet departs from
-    /// the tree that is laid into it. Takes no memory.
+    /// the tree that is laid into it. These lanes are tried before the map is searched. Takes no
+    /// memory.
     #[inline(always)]
-    pub fn pop<F: Fabric>(&mut self, fabric: &mut F, trace: &mut Taken) -> Option<u64>
+    pub fn pop<F: Fabric>(
+        &mut self,
+        fabric: &mut F,
+        lanes: &[LiftedPath],
+        trace: &mut Taken,
+    ) -> Option<u64>
         requires arities { F.shape fabric.old ≡ self.old.arities }
+        requires lanes { AreLeafLanes self.old.images lanes.now }
         requires lift { IsLiftOfOne self.old (F.queues fabric.old) }
         requires room { depth self.old.images ≤ trace.old.room }
         requires few { F.popped fabric.old < 2 ^ 62 }
@@ -126,7 +143,8 @@ impl Embedding {
         ensures spilled { F.spilled fabric.new ≡ F.spilled fabric.old }
     {
         let number = fabric.pop(&mut self.digits, &mut self.ranks)?;
-        pick(&self.map, &self.digits, &self.ranks, trace);
+        self.table
+            .pick(&self.map, lanes, &self.digits, &self.ranks, trace);
         Some(number)
     }
 }

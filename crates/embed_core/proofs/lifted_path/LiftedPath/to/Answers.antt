@@ -24,5 +24,7 @@ returns c =
         image = image ∙ c.lift.ensures.digits;
         long = ap length (with_items_is c.in_ok-steps.steps c.lift.new.ranks n') ∙ more ∙ ap (λ (z : List ℕ). length z + 1) (sym image);
         steps = steps;
+        address_is = c.in_ok-to_vec.ensures.items_if_clones_equal (λ x y p. p);
+        depths = c.in_ok-depths.ensures.depths;
       };
     }

@@ -9,6 +9,7 @@ use Rattle.sched_defs.proofs.Leaving.{pop_size}
 use Rattle.sched_core.specs.PolicyState.{policy_in}
 use Rattle.sched_embedded.specs.Laid.{Laid, PopsTo}
 use Rattle.sched_embedded.proofs.MapShapes.{same_depth, sound-holds}
+use Rattle.sched_embedded.proofs.ClassLanes.{lanes-lead}
 use Rattle.sched_embedded.proofs.LiftMoves.{lift-same}
 use Rattle.sched_embedded.proofs.DepartedPackets.{next, departed-tree, leaver-taken, not-empty}
 use Rattle.sched_embedded.proofs.embedded.EmbeddedScheduler.depart.Goals as goal
@@ -17,6 +18,10 @@ pub pop-requires-clause-lift : goal.pop-requires-clause-lift
 pop-requires-clause-lift g c =
     let r = c.requires.stands in
     (r.state.tree, sound-holds (policy_in c.args.self.now.own) r.state c.args.self.now.embedding (g.F.Fabric.queues c.args.under.now) r.sound c.args.self.now.shape r.stood.lifted)
+
+pub pop-requires-clause-lanes : goal.pop-requires-clause-lanes
+pop-requires-clause-lanes g c =
+    rw c.deref.ensures.value (lanes-lead c.args.self.now.embedding.images (policy_in c.args.self.now.own) c.args.self.now.lanes.items c.requires.accepted c.args.self.now.shape c.args.self.now.lanes_lead)
 
 pub pop-requires-clause-room : goal.pop-requires-clause-room
 pop-requires-clause-room g c = omega (arith, same_depth (policy_in c.args.self.now.own).tree c.args.self.now.embedding.images c.args.self.now.shape, c.requires.room)

@@ -6,6 +6,7 @@ use Rattle.embed_defs.specs.Images.{image_map}
 use Rattle.embed_defs.specs.Lift.{picked_ranks}
 use Rattle.embed_defs.specs.GoodMaps.{IsGoodMap}
 use Rattle.embed_core.specs.Picks.{IsLeafImage}
+use Rattle.embed_core.specs.Lanes.{AreLeafLanes}
 use Rattle.sched_embedded.specs.Laid.{Laid}
 use Rattle.sched_embedded.proofs.LiftMoves.{picked, leaf_image, pops_nothing}
 use Rattle.sched_embedded.proofs.embedding.Embedding.pop.Goals as goal
@@ -14,6 +15,9 @@ pub returns-in_err-number-clause-none : goal.returns-in_err-number-clause-none
 returns-in_err-number-clause-none g c =
     let good : IsGoodMap (length c.args.self.now.arities) c.args.self.now.images = subst (λ (l : Laid). IsGoodMap (length l.arities) l.images) c.self.view_is c.self.invariant.laid.good in
     rw c.from_residual.ensures (λ t held. pops_nothing c.args.self.now good (g.F.Fabric.queues c.args.fabric.now) t held (c.in_err-number.ensures.none.0 refl))
+
+pub pick-requires-clause-paths : goal.pick-requires-clause-paths
+pick-requires-clause-paths g c = subst (λ (l : Laid). AreLeafLanes l.images c.args.lanes.now) (sym c.self.view_is) c.requires.lanes
 
 pub pick-requires-clause-leaf : goal.pick-requires-clause-leaf
 pick-requires-clause-leaf g c =
