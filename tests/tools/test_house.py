@@ -35,12 +35,12 @@ WRONG = {
 }
 
 
-def made(folder, source, crates="low:\nhigh: low\n"):
-    """A checkout of two crates, the lower with this source."""
+def made(folder, source, crates="low:\nhigh: low\n", crate="low"):
+    """A checkout of two crates, one of them with this source."""
     top = pathlib.Path(folder)
     (top / "crates.txt").write_text(crates)
-    (top / "crates/low/src").mkdir(parents=True)
-    (top / "crates/low/src/lib.rt").write_text(source)
+    (top / f"crates/{crate}/src").mkdir(parents=True)
+    (top / f"crates/{crate}/src/lib.rt").write_text(source)
     return top
 
 
@@ -53,6 +53,15 @@ class House(unittest.TestCase):
         for limit, source in WRONG.items():
             with self.subTest(limit), tempfile.TemporaryDirectory() as folder:
                 over = {name for _, count, name in house.passed(made(folder, source)) if count > house.LIMITS[name]}
+                self.assertEqual({limit}, over)
+
+    def test_crates_with_bundles_have_a_limit_of_their_own(self):
+        limit = "clauses where runs begin"
+        many = "".join(f"    ensures c{n} {{ x }}\n" for n in range(house.LIMITS[limit] + 1))
+        for crate in house.BUNDLED:
+            with self.subTest(crate), tempfile.TemporaryDirectory() as folder:
+                top = made(folder, f"pub fn one()\n{many}{{\n}}\n", crate=crate)
+                over = {name for _, count, name in house.passed(top) if count > house.LIMITS[name]}
                 self.assertEqual({limit}, over)
 
     def test_crates_and_chains_are_counted(self):

@@ -1,5 +1,5 @@
 //! The command `calm`: whether a policy is calm in a target.
-ghost use Rattle.std.specs.Prelude.{◌≡◌, ◌≤◌, ◌∷◌, [], Bool, IfOk, OnOk, OnErr, IsErrOf};
+ghost use Rattle.std.specs.Prelude.{◌≡◌, ◌≤◌, ◌∷◌, [], IfOk, OnOk, OnErr, IsErrOf};
 ghost use Rattle.outside_core.specs.Faults.{Rose};
 ghost use Rattle.outside_core.specs.Written.{Appended, AppendedPrefix};
 ghost use Rattle.target_defs.specs.Target.{IsInRange};
@@ -7,6 +7,7 @@ ghost use Rattle.replay_app.specs.Answer.{IsTold};
 ghost use Rattle.replay_app.specs.Statuses.{IsOneOf, status_code};
 ghost use Rattle.replay_app.specs.Words.{AreLent, WhereTold};
 ghost use Rattle.block_replay.specs.Output.{BehindPolicy, BehindTarget, IsCalmTold, calm_line};
+ghost use Rattle.replay_app.specs.Causes.{HasCauses};
 
 use crate::calmness::calm;
 use crate::words::CalmFiles;
@@ -70,10 +71,8 @@ fn tell_target<S: Shelf, K: Sink>(
     ensures answer { WhereTold (S.content shelf.old) (name.now ∷ []) (λ contents.
         IsTold (BehindPolicy policy.now (contents name.now)) result (K.written sink.old) (K.written sink.new)) }
     ensures statuses { IfOk result (λ s. IsOneOf (4 ∷ 5 ∷ 0 ∷ []) (status_code s)) }
-    ensures shelf_cause { IsErrOf result Stop.Source → Rose (S.faults shelf.old)
-        (S.faults shelf.new) }
-    ensures sink_cause { IsErrOf result Stop.Sink → Rose (K.faults sink.old) (K.faults sink.new) }
-    ensures sink_later { K.faults sink.old ≤ K.faults sink.new }
+    ensures causes { HasCauses result (S.faults shelf.old) (S.faults shelf.new) (K.faults sink.old)
+        (K.faults sink.new) }
 {
     match read_target_file(alloc, shelf, name)? {
         Read::Accepted(target) => tell_placed(alloc, policy, &target, sink),
@@ -95,10 +94,8 @@ pub fn tell_files<S: Shelf, K: Sink>(
         IsTold (IsCalmTold (contents files.now.policy.now) (contents files.now.target.now)) result
         (K.written sink.old) (K.written sink.new)) }
     ensures statuses { IfOk result (λ s. IsOneOf (3 ∷ 4 ∷ 5 ∷ 0 ∷ []) (status_code s)) }
-    ensures shelf_cause { IsErrOf result Stop.Source → Rose (S.faults shelf.old)
-        (S.faults shelf.new) }
-    ensures sink_cause { IsErrOf result Stop.Sink → Rose (K.faults sink.old) (K.faults sink.new) }
-    ensures sink_later { K.faults sink.old ≤ K.faults sink.new }
+    ensures causes { HasCauses result (S.faults shelf.old) (S.faults shelf.new) (K.faults sink.old)
+        (K.faults sink.new) }
 {
     match read_policy(alloc, shelf, files.policy)? {
         Read::Accepted(judged) => tell_target(alloc, &judged.policy, files.target, shelf, sink),

@@ -1,5 +1,5 @@
 -- The depths of the images of the nodes on a path to a leaf.
-use Rattle.std.proofs.Common.{◌≡◌, ℕ, zero, suc, ◌+◌, ◌<◌, ◌≤◌, List, [], ◌∷◌, length, get_or, map, drop, refl, sym, ap, ◌∙◌, subst, arith, length-drop}
+use Rattle.std.proofs.Common.{◌≡◌, ℕ, zero, suc, ◌+◌, ◌<◌, ◌≤◌, List, [], ◌∷◌, length, get_or, map, drop, refl, sym, ap, ◌∙◌, subst, arith}
 use Rattle.std.proofs.lemmas.List.{drop_more}
 use Rattle.std.specs.Prelude.{slice_index}
 use Rattle.std.specs.List.{AllByRecursion}
@@ -41,15 +41,6 @@ module _ (e : Address) (ks : List (Tree Address)) (m : Tree Address) (step : ℕ
       let n : IsNext (branch e (trees_of ks)) (get_or digits step 0) (drop (step + 1) digits) k = next e ks _ _ k leads (rw x at f) in
       let t : IsNext m (get_or digits step 0) (drop (step + 1) digits) k = subst (λ (z : Tree Address). IsNext z (get_or digits step 0) (drop (step + 1) digits) k) p n in
       record { leaf_below = t.leaf_below; depths = ap (image_depths m) d ∙ t.depths }
-
--- ---- the end
-depths-end : (m : Tree Address) (way : Address) → length way < 1 → image_depths m way ≡ length (root_of m) ∷ []
-depths-end (leaf e) [] z = refl
-depths-end (inner e ts) [] z = refl
-depths-end m (i ∷ way) z = absurd (omega arith)
-
-pub depth-last : (m : Tree Address) (step : ℕ) (digits : List ℕ) → length digits ≤ step → image_depths m (drop step digits) ≡ length (root_of m) ∷ []
-depth-last m step digits b = depths-end m (drop step digits) (omega (arith, length-drop step digits))
 
 -- ---- the ranks that are picked are those at these depths
 mutual

@@ -45,11 +45,6 @@ same_status (Whole n) = refl
 same_status (BadCapture c p) = refl
 same_status (PastLast n) = refl
 
-pub status_told : (e : Ending) (o : Option (List ℕ)) (ending : List ℕ → Ending) → IfSome o (λ file. e ≡ ending file)
-    → IfSome o (λ file. status_code (run_status e) ≡ ending_status (ending file))
-status_told e None ending is = tt
-status_told e (Some file) ending is = ap (λ x. status_code (run_status x)) is ∙ same_status (ending file)
-
 pub run_ends : (e : Ending) → IsOneOf run_statuses (status_code (run_status e))
 run_ends (Whole n) = inr (inr (inl refl))
 run_ends (BadCapture c p) = inr (inl refl)

@@ -13,7 +13,7 @@ use Rattle.sched_embedded.specs.Laid.{Laid}
 use Rattle.sched_capture.specs.Answers.{paced_answer, shown_by, HaveWatched}
 use Rattle.tap_core.specs.Watching.{Sight}
 use Rattle.replay_app.specs.Answer.{Answer, IsTold, IsLeft}
-use Rattle.replay_app.specs.Output.{laid_run}
+use Rattle.replay_app.specs.Output.{direct_run, laid_run}
 use Rattle.replay_app.specs.Scripts.{OfLines, ending_status}
 use Rattle.replay_app.specs.Stages.{watching_in}
 use Rattle.replay_app.specs.Statuses.{run_status}
@@ -21,43 +21,53 @@ use Rattle.replay_app.specs.declared.status.Status.{Status}
 use Rattle.replay_app.proofs.AnswerLaws.{same_status}
 use Rattle.replay_app.proofs.FollowLaws.{exactly_told, exactly_done}
 use Rattle.replay_app.proofs.TapLaws.{lines_told}
+use Rattle.sched_capture.specs.Outside.{IsReported}
 
 -- a whole run is a prefix of itself
 pub whole_part : {F : Type 0} (fabrics : Ghosts F) (run : Option FabricRun) (old new : F) → Leaves fabrics run old new → LeavesPart fabrics run old new
 whole_part fabrics None old new leaves = leaves
 whole_part fabrics (Some run) old new leaves = inr (record { made = run.events; unmade = []; whole = append-nil run.events; holds = leaves })
 
+-- ---- a run through the policy's own tree
+module _ (policy : Resolved) (pace : Pace) (old new : Option (List ℕ)) where
+  pub own_told : (told : Option (List ℕ)) (e : Ending) → IfSome told (λ file. IsReported (Ok e) (paced_answer policy pace file) old new) → IfSome told (λ file. IsTold (λ a. a ≡ direct_run policy pace file) (Ok (run_status e)) old new)
+  own_told None e report = tt
+  own_told (Some file) e report = exactly_told (direct_run policy pace file) (Ok (run_status e)) old new (same_status e ∙ ap (λ (x : Ending). ending_status x) report.ending) report.text tt
+
+  pub own_cut : (told : Option (List ℕ)) (cause stop : Stop) → IfSome told (λ file. IsReported (Err cause) (paced_answer policy pace file) old new) → IfSome told (λ file. IsTold (λ a. a ≡ direct_run policy pace file) (Err stop) old new)
+  own_cut None cause stop report = tt
+  own_cut (Some file) cause stop report = exactly_told (direct_run policy pace file) (Err stop) old new tt tt report.part
+
+-- ---- a run through a fabric
 module _ (policy : Resolved) (laid : Laid) (pace : Pace) (before : Sight) where
   abbrev pub answer : List ℕ → Answer
   answer file = laid_run policy laid pace file (watching_in before)
 
   -- ---- the text written
   -- the report and the lines
-  pub whole_told : (told : Option (List ℕ)) (e : Ending) (after : Sight) (old mid new : Option (List ℕ)) → IfSome told (λ file. e ≡ (paced_answer policy pace file).ending)
-      → IfSome told (λ file. HaveWatched (shown_by policy.policy (paced_answer policy pace file)) before after)
-      → IfSome told (λ file. Appended old mid (paced_answer policy pace file).text) → OfLines e after (Appended mid new)
+  pub whole_told : (told : Option (List ℕ)) (e : Ending) (after : Sight) (old mid new : Option (List ℕ)) → IfSome told (λ file. IsReported (Ok e) (paced_answer policy pace file) old mid)
+      → IfSome told (λ file. HaveWatched (shown_by policy.policy (paced_answer policy pace file)) before after) → OfLines e after (Appended mid new)
       → IfSome told (λ file. IsTold (λ a. a ≡ answer file) (Ok (run_status e)) old new)
-  whole_told None e after old mid new ends watched text lines = tt
-  whole_told (Some file) e after old mid new ends watched text lines =
+  whole_told None e after old mid new report watched lines = tt
+  whole_told (Some file) e after old mid new report watched lines =
       exactly_told (answer file) (Ok (run_status e)) old new
-      (same_status e ∙ ap (λ (x : Ending). ending_status x) ends)
-      (appended_in_turn old mid new _ _ text (lines_told policy pace file e before after (Appended mid new) ends watched lines)) tt
+      (same_status e ∙ ap (λ (x : Ending). ending_status x) report.ending)
+      (appended_in_turn old mid new _ _ report.text (lines_told policy pace file e before after (Appended mid new) report.ending watched lines)) tt
 
   -- the report, and a prefix of the lines
-  pub lines_cut : (told : Option (List ℕ)) (e : Ending) (stop : Stop) (after : Sight) (old mid new : Option (List ℕ)) → IfSome told (λ file. e ≡ (paced_answer policy pace file).ending)
-      → IfSome told (λ file. HaveWatched (shown_by policy.policy (paced_answer policy pace file)) before after)
-      → IfSome told (λ file. Appended old mid (paced_answer policy pace file).text) → OfLines e after (AppendedPrefix mid new)
+  pub lines_cut : (told : Option (List ℕ)) (e : Ending) (stop : Stop) (after : Sight) (old mid new : Option (List ℕ)) → IfSome told (λ file. IsReported (Ok e) (paced_answer policy pace file) old mid)
+      → IfSome told (λ file. HaveWatched (shown_by policy.policy (paced_answer policy pace file)) before after) → OfLines e after (AppendedPrefix mid new)
       → IfSome told (λ file. IsTold (λ a. a ≡ answer file) (Err stop) old new)
-  lines_cut None e stop after old mid new ends watched text lines = tt
-  lines_cut (Some file) e stop after old mid new ends watched text lines =
+  lines_cut None e stop after old mid new report watched lines = tt
+  lines_cut (Some file) e stop after old mid new report watched lines =
       exactly_told (answer file) (Err stop) old new tt tt
-      (prefix_in_turn old mid new _ _ text (lines_told policy pace file e before after (AppendedPrefix mid new) ends watched lines))
+      (prefix_in_turn old mid new _ _ report.text (lines_told policy pace file e before after (AppendedPrefix mid new) report.ending watched lines))
 
   -- a prefix of the report
-  pub report_cut : (told : Option (List ℕ)) (stop : Stop) (old new : Option (List ℕ)) → IfSome told (λ file. AppendedPrefix old new (paced_answer policy pace file).text)
+  pub report_cut : (told : Option (List ℕ)) (cause stop : Stop) (old new : Option (List ℕ)) → IfSome told (λ file. IsReported (Err cause) (paced_answer policy pace file) old new)
       → IfSome told (λ file. IsTold (λ a. a ≡ answer file) (Err stop) old new)
-  report_cut None stop old new part = tt
-  report_cut (Some file) stop old new part = exactly_told (answer file) (Err stop) old new tt tt (prefix_of_longer old new _ _ part)
+  report_cut None cause stop old new report = tt
+  report_cut (Some file) cause stop old new report = exactly_told (answer file) (Err stop) old new tt tt (prefix_of_longer old new _ _ report.part)
 
   -- ---- the state left
   module _ {F : Type 0} (fabrics : Ghosts F) (old new : F) (after : Sight) where

@@ -11,6 +11,7 @@ pub mod Output
 pub mod Stages
 pub mod Behind
 pub mod Stops
+pub mod Causes
 pub mod Named
 pub mod Laws
 pub mod Rows

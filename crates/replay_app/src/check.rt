@@ -1,10 +1,10 @@
 //! The command `check`: a policy's canonical text.
-ghost use Rattle.std.specs.Prelude.{◌≤◌, [], IfOk, IsTrue, IsErrOf};
-ghost use Rattle.outside_core.specs.Faults.{Rose};
+ghost use Rattle.std.specs.Prelude.{[], IfOk, IsTrue};
 ghost use Rattle.replay_app.specs.Answer.{IsTold};
 ghost use Rattle.replay_app.specs.Output.{IsOutput};
 ghost use Rattle.replay_app.specs.Statuses.{IsOneOf, statuses_of, status_code};
 ghost use Rattle.replay_app.specs.Words.{WhereTold, check, file_words};
+ghost use Rattle.replay_app.specs.Causes.{HasCauses};
 
 use crate::policies::read_policy;
 use crate::refusal::Read;
@@ -27,10 +27,8 @@ pub fn check_file<S: Shelf, K: Sink>(
     ensures answer { WhereTold (S.content shelf.old) (file_words (check name.now)) (λ contents.
         IsTold (IsOutput (check name.now) contents []) result (K.written sink.old) (K.written sink.new)) }
     ensures statuses { IfOk result (λ s. IsOneOf (statuses_of (check name.now)) (status_code s)) }
-    ensures shelf_cause { IsErrOf result Stop.Source → Rose (S.faults shelf.old)
-        (S.faults shelf.new) }
-    ensures sink_cause { IsErrOf result Stop.Sink → Rose (K.faults sink.old) (K.faults sink.new) }
-    ensures sink_later { K.faults sink.old ≤ K.faults sink.new }
+    ensures causes { HasCauses result (S.faults shelf.old) (S.faults shelf.new) (K.faults sink.old)
+        (K.faults sink.new) }
 {
     match read_policy(alloc, shelf, name)? {
         Read::Accepted(judged) => {

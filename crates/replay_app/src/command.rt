@@ -8,6 +8,8 @@ ghost use Rattle.tap_core.specs.Lists.{entries};
 ghost use Rattle.replay_app.specs.Output.{Answers, IsOutput};
 ghost use Rattle.replay_app.specs.Statuses.{CanEnd, IsOneOf, IsRefusal, statuses_of, status_code};
 ghost use Rattle.replay_app.specs.Words.{AreLent, WhereTold, file_words, form_in, no_form};
+ghost use Rattle.sched_capture.specs.Placements.{CanCount};
+ghost use Rattle.replay_app.specs.Causes.{HasCauses};
 
 use crate::check::check_file;
 use crate::direct::direct_files;
@@ -39,8 +41,7 @@ fn answer<S: Shelf, K: Sink, F: Fabric, T: Tap>(
     taps: &mut Vec<T>,
 ) -> Result<Status, Stop>
     requires lent { AreLent (S.lends shelf.old) (file_words (form_in words.now)) }
-    requires pushes { F.pushed fabric.old < 2 ^ 61 }
-    requires pops { F.popped fabric.old < 2 ^ 61 }
+    requires counts { CanCount F.Fabric fabric.old }
 
     ensures answer { WhereTold (S.content shelf.old) (file_words (form_in words.now)) (λ contents.
         IsTold (IsOutput (form_in words.now) contents (entries T.kind_of T.state_of taps.old.items)) result
@@ -60,10 +61,8 @@ fn answer<S: Shelf, K: Sink, F: Fabric, T: Tap>(
     ensures unshown { UsesNoTaps (form_in words.now)
         → entries T.kind_of T.state_of taps.new.items ≡ entries T.kind_of T.state_of taps.old.items }
     ensures no_files { file_words (form_in words.now) ≡ [] → IsErrOf result Stop.Source → ⊥ }
-    ensures shelf_cause { IsErrOf result Stop.Source → Rose (S.faults shelf.old)
-        (S.faults shelf.new) }
-    ensures sink_cause { IsErrOf result Stop.Sink → Rose (K.faults sink.old) (K.faults sink.new) }
-    ensures sink_later { K.faults sink.old ≤ K.faults sink.new }
+    ensures causes { HasCauses result (S.faults shelf.old) (S.faults shelf.new) (K.faults sink.old)
+        (K.faults sink.new) }
 {
     match command_of(words) {
         Some(Command::Replay(files)) => replay_watched(alloc, &files, shelf, sink, fabric, taps),

@@ -1,16 +1,13 @@
 //! The command `direct`: runs through a policy's own tree of queues.
-ghost use Rattle.std.specs.Prelude.{◌≡◌, ◌≤◌, ◌∷◌, [], IfOk, IfSome, OnOk, OnErr, IsTrue, IsErrOf};
-ghost use Rattle.outside_core.specs.Faults.{Rose};
-ghost use Rattle.outside_core.specs.Written.{Appended, AppendedPrefix};
+ghost use Rattle.std.specs.Prelude.{◌≡◌, ◌∷◌, [], IfOk, IfSome, IsTrue};
 ghost use Rattle.sched_run.specs.Steps.{pace_of, IsBounded};
-ghost use Rattle.sched_capture.specs.Answers.{paced_answer};
 ghost use Rattle.replay_app.specs.Answer.{IsTold};
 ghost use Rattle.replay_app.specs.Named.{direct_form};
-ghost use Rattle.replay_app.specs.Output.{IsOutput};
-ghost use Rattle.replay_app.specs.Scripts.{ending_status};
+ghost use Rattle.replay_app.specs.Output.{direct_run, IsOutput};
 ghost use Rattle.replay_app.specs.Stages.{BehindPolicy};
 ghost use Rattle.replay_app.specs.Statuses.{IsOneOf, run_statuses, statuses_of, status_code};
 ghost use Rattle.replay_app.specs.Words.{AreLent, WhereTold, file_words};
+ghost use Rattle.replay_app.specs.Causes.{HasCauses};
 
 use crate::policies::read_policy;
 use crate::refusal::Read;
@@ -36,17 +33,12 @@ fn direct_capture<S: Shelf, K: Sink>(
     requires lent { IsTrue (S.lends shelf.old task.now.capture.now) }
     requires bounded { IsBounded task.now.pace }
 
-    ensures status { IfOk result (λ s. IfSome (S.content shelf.old task.now.capture.now) (λ file.
-        status_code s ≡ ending_status (paced_answer policy.now (pace_of task.now.pace) file).ending)) }
+    ensures answer { IfSome (S.content shelf.old task.now.capture.now) (λ file.
+        IsTold (λ a. a ≡ direct_run policy.now (pace_of task.now.pace) file) result
+        (K.written sink.old) (K.written sink.new)) }
     ensures statuses { IfOk result (λ s. IsOneOf run_statuses (status_code s)) }
-    ensures text { OnOk result (IfSome (S.content shelf.old task.now.capture.now) (λ file.
-        Appended (K.written sink.old) (K.written sink.new) (paced_answer policy.now (pace_of task.now.pace) file).text)) }
-    ensures part { OnErr result (IfSome (S.content shelf.old task.now.capture.now) (λ file.
-        AppendedPrefix (K.written sink.old) (K.written sink.new) (paced_answer policy.now (pace_of task.now.pace) file).text)) }
-    ensures shelf_cause { IsErrOf result Stop.Source → Rose (S.faults shelf.old)
-        (S.faults shelf.new) }
-    ensures sink_cause { IsErrOf result Stop.Sink → Rose (K.faults sink.old) (K.faults sink.new) }
-    ensures sink_later { K.faults sink.old ≤ K.faults sink.new }
+    ensures causes { HasCauses result (S.faults shelf.old) (S.faults shelf.new) (K.faults sink.old)
+        (K.faults sink.new) }
 {
     Ok(Status::of_run(direct(alloc, policy, task, shelf, sink)?))
 }
@@ -66,10 +58,8 @@ fn direct_script<S: Shelf, K: Sink>(
         []) (λ contents.
         IsTold (BehindPolicy policy.now (contents files.now.script.now) (contents files.now.capture.now)) result (K.written sink.old) (K.written sink.new)) }
     ensures statuses { IfOk result (λ s. IsOneOf run_statuses (status_code s)) }
-    ensures shelf_cause { IsErrOf result Stop.Source → Rose (S.faults shelf.old)
-        (S.faults shelf.new) }
-    ensures sink_cause { IsErrOf result Stop.Sink → Rose (K.faults sink.old) (K.faults sink.new) }
-    ensures sink_later { K.faults sink.old ≤ K.faults sink.new }
+    ensures causes { HasCauses result (S.faults shelf.old) (S.faults shelf.new) (K.faults sink.old)
+        (K.faults sink.new) }
 {
     match read_script(alloc, shelf, files.script)? {
         Read::Accepted(script) => {
@@ -97,10 +87,8 @@ pub fn direct_files<S: Shelf, K: Sink>(
         IsTold (IsOutput (direct_form files.now) contents []) result (K.written sink.old) (K.written sink.new)) }
     ensures statuses { IfOk result (λ s. IsOneOf (statuses_of (direct_form files.now))
         (status_code s)) }
-    ensures shelf_cause { IsErrOf result Stop.Source → Rose (S.faults shelf.old)
-        (S.faults shelf.new) }
-    ensures sink_cause { IsErrOf result Stop.Sink → Rose (K.faults sink.old) (K.faults sink.new) }
-    ensures sink_later { K.faults sink.old ≤ K.faults sink.new }
+    ensures causes { HasCauses result (S.faults shelf.old) (S.faults shelf.new) (K.faults sink.old)
+        (K.faults sink.new) }
 {
     match read_policy(alloc, shelf, files.policy)? {
         Read::Accepted(judged) => direct_script(alloc, &judged.policy, files, shelf, sink),

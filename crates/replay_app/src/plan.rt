@@ -8,6 +8,7 @@ ghost use Rattle.replay_app.specs.Output.{IsOutput};
 ghost use Rattle.replay_app.specs.Statuses.{IsOneOf, statuses_of, status_code};
 ghost use Rattle.replay_app.specs.Targets.{ForTarget, IsPlanned, plan_answer};
 ghost use Rattle.replay_app.specs.Words.{AreLent, WhereTold, file_words};
+ghost use Rattle.replay_app.specs.Causes.{HasCauses};
 
 use crate::policies::read_policy;
 use crate::refusal::Read;
@@ -54,10 +55,8 @@ fn plan_target<S: Shelf, K: Sink>(
     ensures answer { WhereTold (S.content shelf.old) (name.now ∷ []) (λ contents.
         IsTold (ForTarget (contents name.now) (IsPlanned policy.now.policy)) result (K.written sink.old) (K.written sink.new)) }
     ensures statuses { IfOk result (λ s. IsOneOf (4 ∷ 5 ∷ 0 ∷ []) (status_code s)) }
-    ensures shelf_cause { IsErrOf result Stop.Source → Rose (S.faults shelf.old)
-        (S.faults shelf.new) }
-    ensures sink_cause { IsErrOf result Stop.Sink → Rose (K.faults sink.old) (K.faults sink.new) }
-    ensures sink_later { K.faults sink.old ≤ K.faults sink.new }
+    ensures causes { HasCauses result (S.faults shelf.old) (S.faults shelf.new) (K.faults sink.old)
+        (K.faults sink.new) }
 {
     match read_target_file(alloc, shelf, name)? {
         Read::Accepted(target) => {
@@ -81,10 +80,8 @@ pub fn plan_files<S: Shelf, K: Sink>(
         IsTold (IsOutput (plan_form files.now) contents []) result (K.written sink.old) (K.written sink.new)) }
     ensures statuses { IfOk result (λ s. IsOneOf (statuses_of (plan_form files.now))
         (status_code s)) }
-    ensures shelf_cause { IsErrOf result Stop.Source → Rose (S.faults shelf.old)
-        (S.faults shelf.new) }
-    ensures sink_cause { IsErrOf result Stop.Sink → Rose (K.faults sink.old) (K.faults sink.new) }
-    ensures sink_later { K.faults sink.old ≤ K.faults sink.new }
+    ensures causes { HasCauses result (S.faults shelf.old) (S.faults shelf.new) (K.faults sink.old)
+        (K.faults sink.new) }
 {
     match read_policy(alloc, shelf, files.policy)? {
         Read::Accepted(judged) => plan_target(alloc, &judged.policy, files.target, shelf, sink),

@@ -1,15 +1,11 @@
 //! Runs through a fabric that holds a policy's tree.
-ghost use Rattle.std.specs.Prelude.{◌≡◌, ◌<◌, ◌≤◌, ◌^◌, ◌∷◌, [], IfOk, IfSome, OnOk, OnErr, IsTrue, IsErrOf};
+ghost use Rattle.std.specs.Prelude.{◌≡◌, ◌<◌, ◌≤◌, ◌∷◌, [], IfOk, IfSome, OnOk, OnErr, IsTrue, IsErrOf};
 ghost use Rattle.outside_core.specs.Faults.{Rose};
 ghost use Rattle.outside_core.specs.Written.{Appended, AppendedPrefix};
-ghost use Rattle.tree_defs.specs.Tree.{SameShape};
-ghost use Rattle.tree_defs.specs.Topology.{topology_of, complete};
 ghost use Rattle.target_defs.specs.Target.{IsInRange};
-ghost use Rattle.embed_defs.specs.Images.{image_map};
-ghost use Rattle.embed_defs.specs.Embedding.{IsEmbedding};
 ghost use Rattle.sched_embedded.specs.Fabrics.{IsAsItWas};
 ghost use Rattle.sched_run.specs.Steps.{pace_of, IsBounded};
-ghost use Rattle.sched_capture.specs.Placements.{laid_by};
+ghost use Rattle.sched_capture.specs.Placements.{laid_by, IsPlaced, CanCount};
 ghost use Rattle.replay_app.specs.Answer.{IsLeft, IsTold};
 ghost use Rattle.replay_app.specs.Named.{pacing_form, replay_form, HasRate};
 ghost use Rattle.replay_app.specs.Output.{laid_run};
@@ -18,6 +14,7 @@ ghost use Rattle.replay_app.specs.Stages.{BehindScript, BehindRoom, BehindTarget
 ghost use Rattle.replay_app.specs.Statuses.{IsOneOf, IsRefusal, run_statuses, pace_statuses, paced_statuses, statuses_of, status_code};
 ghost use Rattle.replay_app.specs.Words.{AreLent, WhereTold, file_words, pacing_words};
 ghost use Rattle.tap_core.specs.Watching.{sight_of, AreNoMore};
+ghost use Rattle.replay_app.specs.Causes.{HasCauses};
 
 use crate::forward::forward_capture;
 use crate::policies::read_policy;
@@ -73,12 +70,8 @@ fn replay_capture<S: Shelf, K: Sink, F: Fabric, T: Tap>(
 ) -> Result<Status, Stop>
     requires lent { IsTrue (S.lends shelf.old task.now.capture.now) }
     requires bounded { IsBounded task.now.pace }
-    requires range { IsInRange placement.target.arities placement.target.above }
-    requires map_shape { SameShape (topology_of policy.now.policy.tree) placement.map }
-    requires embedding { IsEmbedding (topology_of policy.now.policy.tree)
-        (complete placement.target.arities) (image_map placement.map) }
-    requires pushes { F.pushed fabric.old < 2 ^ 61 }
-    requires pops { F.popped fabric.old < 2 ^ 61 }
+    requires placed { IsPlaced policy.now.policy placement }
+    requires counts { CanCount F.Fabric fabric.old }
 
     ensures answer { IfSome (S.content shelf.old task.now.capture.now) (λ file.
         IsTold (λ a. a ≡ laid_run policy.now (laid_by placement) (pace_of task.now.pace) file
@@ -90,10 +83,8 @@ fn replay_capture<S: Shelf, K: Sink, F: Fabric, T: Tap>(
     ensures fewer { AreNoMore (sight_of T.kind_of T.state_of watch.old)
         (sight_of T.kind_of T.state_of watch.new) }
     ensures statuses { IfOk result (λ s. IsOneOf (pace_statuses task.now.pace) (status_code s)) }
-    ensures shelf_cause { IsErrOf result Stop.Source → Rose (S.faults shelf.old)
-        (S.faults shelf.new) }
-    ensures sink_cause { IsErrOf result Stop.Sink → Rose (K.faults sink.old) (K.faults sink.new) }
-    ensures sink_later { K.faults sink.old ≤ K.faults sink.new }
+    ensures causes { HasCauses result (S.faults shelf.old) (S.faults shelf.new) (K.faults sink.old)
+        (K.faults sink.new) }
 {
     let ending = replay(alloc, policy, placement, task, shelf, sink, fabric, watch)?;
     write_lines(alloc, sink, watch, ending)?;
@@ -113,12 +104,8 @@ pub fn replay_script<S: Shelf, K: Sink, F: Fabric, T: Tap>(
 ) -> Result<Status, Stop>
     requires lent { AreLent (S.lends shelf.old) (files.now.capture.now ∷ files.now.script.now ∷
         []) }
-    requires range { IsInRange placement.target.arities placement.target.above }
-    requires map_shape { SameShape (topology_of policy.now.policy.tree) placement.map }
-    requires embedding { IsEmbedding (topology_of policy.now.policy.tree)
-        (complete placement.target.arities) (image_map placement.map) }
-    requires pushes { F.pushed fabric.old < 2 ^ 61 }
-    requires pops { F.popped fabric.old < 2 ^ 61 }
+    requires placed { IsPlaced policy.now.policy placement }
+    requires counts { CanCount F.Fabric fabric.old }
 
     ensures answer { WhereTold (S.content shelf.old) (files.now.capture.now ∷ files.now.script.now ∷
         []) (λ contents.
@@ -134,10 +121,8 @@ pub fn replay_script<S: Shelf, K: Sink, F: Fabric, T: Tap>(
     ensures fewer { AreNoMore (sight_of T.kind_of T.state_of watch.old)
         (sight_of T.kind_of T.state_of watch.new) }
     ensures statuses { IfOk result (λ s. IsOneOf run_statuses (status_code s)) }
-    ensures shelf_cause { IsErrOf result Stop.Source → Rose (S.faults shelf.old)
-        (S.faults shelf.new) }
-    ensures sink_cause { IsErrOf result Stop.Sink → Rose (K.faults sink.old) (K.faults sink.new) }
-    ensures sink_later { K.faults sink.old ≤ K.faults sink.new }
+    ensures causes { HasCauses result (S.faults shelf.old) (S.faults shelf.new) (K.faults sink.old)
+        (K.faults sink.new) }
 {
     match read_script(alloc, shelf, files.script)? {
         Read::Accepted(script) => {
@@ -164,12 +149,8 @@ fn replay_paced<S: Shelf, K: Sink, F: Fabric, T: Tap>(
     requires lent { AreLent (S.lends shelf.old) (files.now.capture.now ∷ pacing_words
         (pacing_form files.now.pacing)) }
     requires rate { HasRate files.now.pacing }
-    requires range { IsInRange placement.target.arities placement.target.above }
-    requires map_shape { SameShape (topology_of policy.now.policy.tree) placement.map }
-    requires embedding { IsEmbedding (topology_of policy.now.policy.tree)
-        (complete placement.target.arities) (image_map placement.map) }
-    requires pushes { F.pushed fabric.old < 2 ^ 61 }
-    requires pops { F.popped fabric.old < 2 ^ 61 }
+    requires placed { IsPlaced policy.now.policy placement }
+    requires counts { CanCount F.Fabric fabric.old }
 
     ensures answer { WhereTold (S.content shelf.old) (files.now.capture.now ∷ pacing_words
         (pacing_form files.now.pacing)) (λ contents.
@@ -186,10 +167,8 @@ fn replay_paced<S: Shelf, K: Sink, F: Fabric, T: Tap>(
         (sight_of T.kind_of T.state_of watch.new) }
     ensures statuses { IfOk result (λ s. IsOneOf (paced_statuses (pacing_form files.now.pacing))
         (status_code s)) }
-    ensures shelf_cause { IsErrOf result Stop.Source → Rose (S.faults shelf.old)
-        (S.faults shelf.new) }
-    ensures sink_cause { IsErrOf result Stop.Sink → Rose (K.faults sink.old) (K.faults sink.new) }
-    ensures sink_later { K.faults sink.old ≤ K.faults sink.new }
+    ensures causes { HasCauses result (S.faults shelf.old) (S.faults shelf.new) (K.faults sink.old)
+        (K.faults sink.new) }
 {
     match files.pacing {
         Pacing::Script(name, _) => {
@@ -239,8 +218,7 @@ fn replay_placed<S: Shelf, K: Sink, F: Fabric, T: Tap>(
         (pacing_form files.now.pacing)) }
     requires rate { HasRate files.now.pacing }
     requires range { IsInRange target.arities target.above }
-    requires pushes { F.pushed fabric.old < 2 ^ 61 }
-    requires pops { F.popped fabric.old < 2 ^ 61 }
+    requires counts { CanCount F.Fabric fabric.old }
 
     ensures answer { WhereTold (S.content shelf.old) (files.now.capture.now ∷ pacing_words
         (pacing_form files.now.pacing)) (λ contents.
@@ -261,10 +239,8 @@ fn replay_placed<S: Shelf, K: Sink, F: Fabric, T: Tap>(
         IsAsItWas F.Fabric fabric.old fabric.new) }
     ensures unwatched { IfOk result (λ s. IsRefusal (status_code s)
         → sight_of T.kind_of T.state_of watch.new ≡ sight_of T.kind_of T.state_of watch.old) }
-    ensures shelf_cause { IsErrOf result Stop.Source → Rose (S.faults shelf.old)
-        (S.faults shelf.new) }
-    ensures sink_cause { IsErrOf result Stop.Sink → Rose (K.faults sink.old) (K.faults sink.new) }
-    ensures sink_later { K.faults sink.old ≤ K.faults sink.new }
+    ensures causes { HasCauses result (S.faults shelf.old) (S.faults shelf.new) (K.faults sink.old)
+        (K.faults sink.new) }
 {
     match embed(alloc, policy.topo(), &target) {
         Ok(map) => {
@@ -289,8 +265,7 @@ fn replay_target<S: Shelf, K: Sink, F: Fabric, T: Tap>(
     requires lent { AreLent (S.lends shelf.old) (files.now.target.now ∷ files.now.capture.now ∷
         pacing_words (pacing_form files.now.pacing)) }
     requires rate { HasRate files.now.pacing }
-    requires pushes { F.pushed fabric.old < 2 ^ 61 }
-    requires pops { F.popped fabric.old < 2 ^ 61 }
+    requires counts { CanCount F.Fabric fabric.old }
 
     ensures answer { WhereTold (S.content shelf.old)
         (files.now.target.now ∷ files.now.capture.now ∷ pacing_words (pacing_form files.now.pacing)) (λ contents.
@@ -311,10 +286,8 @@ fn replay_target<S: Shelf, K: Sink, F: Fabric, T: Tap>(
         IsAsItWas F.Fabric fabric.old fabric.new) }
     ensures unwatched { IfOk result (λ s. IsRefusal (status_code s)
         → sight_of T.kind_of T.state_of watch.new ≡ sight_of T.kind_of T.state_of watch.old) }
-    ensures shelf_cause { IsErrOf result Stop.Source → Rose (S.faults shelf.old)
-        (S.faults shelf.new) }
-    ensures sink_cause { IsErrOf result Stop.Sink → Rose (K.faults sink.old) (K.faults sink.new) }
-    ensures sink_later { K.faults sink.old ≤ K.faults sink.new }
+    ensures causes { HasCauses result (S.faults shelf.old) (S.faults shelf.new) (K.faults sink.old)
+        (K.faults sink.new) }
 {
     match read_target_file(alloc, shelf, files.target)? {
         Read::Accepted(target) => replay_placed(
@@ -336,8 +309,7 @@ pub fn replay_files<S: Shelf, K: Sink, F: Fabric, T: Tap>(
 ) -> Result<Status, Stop>
     requires lent { AreLent (S.lends shelf.old) (file_words (replay_form files.now)) }
     requires rate { HasRate files.now.pacing }
-    requires pushes { F.pushed fabric.old < 2 ^ 61 }
-    requires pops { F.popped fabric.old < 2 ^ 61 }
+    requires counts { CanCount F.Fabric fabric.old }
 
     ensures answer { WhereTold (S.content shelf.old) (file_words (replay_form files.now))
         (λ contents.
@@ -356,10 +328,8 @@ pub fn replay_files<S: Shelf, K: Sink, F: Fabric, T: Tap>(
         IsAsItWas F.Fabric fabric.old fabric.new) }
     ensures unwatched { IfOk result (λ s. IsRefusal (status_code s)
         → sight_of T.kind_of T.state_of watch.new ≡ sight_of T.kind_of T.state_of watch.old) }
-    ensures shelf_cause { IsErrOf result Stop.Source → Rose (S.faults shelf.old)
-        (S.faults shelf.new) }
-    ensures sink_cause { IsErrOf result Stop.Sink → Rose (K.faults sink.old) (K.faults sink.new) }
-    ensures sink_later { K.faults sink.old ≤ K.faults sink.new }
+    ensures causes { HasCauses result (S.faults shelf.old) (S.faults shelf.new) (K.faults sink.old)
+        (K.faults sink.new) }
 {
     match read_policy(alloc, shelf, files.policy)? {
         Read::Accepted(judged) => replay_target(

@@ -1,5 +1,5 @@
 //! The command `soak`: a generated load and its line.
-ghost use Rattle.std.specs.Prelude.{◌≡◌, ◌++◌, ◌<◌, ◌≤◌, ◌^◌, IfOk, OnOk, OnErr, IsErrOf};
+ghost use Rattle.std.specs.Prelude.{◌≡◌, ◌++◌, ◌<◌, ◌≤◌, IfOk, OnOk, OnErr, IsErrOf};
 ghost use Rattle.outside_core.specs.Faults.{Rose};
 ghost use Rattle.outside_core.specs.Written.{Appended, AppendedPrefix};
 ghost use Rattle.policy_core.specs.Office.{office_lines};
@@ -11,6 +11,7 @@ ghost use Rattle.replay_app.specs.Soak.{IsSoaked, counted, soak_line, soak_targe
 ghost use Rattle.replay_app.specs.Targets.{IsPlacement};
 ghost use Rattle.tree_defs.specs.Topology.{topology_of};
 ghost use Rattle.tree_defs.specs.Tree.{SameShape};
+ghost use Rattle.sched_capture.specs.Placements.{CanCount};
 
 use crate::status::Status;
 use crate::writing::write;
@@ -95,8 +96,7 @@ fn soak_office<K: Sink, F: Fabric>(
 ) -> Result<Status, Stop>
     requires office { IsResolved office_lines policy.now }
     requires short { load.count ≤ most_load }
-    requires pushes { F.pushed fabric.old < 2 ^ 61 }
-    requires pops { F.popped fabric.old < 2 ^ 61 }
+    requires counts { CanCount F.Fabric fabric.old }
 
     ensures status { IfOk result (λ s. s ≡ Status.Done) }
     ensures answer { IsTold (IsSoaked load) result (K.written sink.old) (K.written sink.new) }
@@ -121,8 +121,7 @@ pub fn soak_load<K: Sink, F: Fabric>(
     fabric: &mut F,
 ) -> Result<Status, Stop>
     requires short { load.count ≤ most_load }
-    requires pushes { F.pushed fabric.old < 2 ^ 61 }
-    requires pops { F.popped fabric.old < 2 ^ 61 }
+    requires counts { CanCount F.Fabric fabric.old }
 
     ensures status { IfOk result (λ s. s ≡ Status.Done) }
     ensures answer { IsTold (IsSoaked load) result (K.written sink.old) (K.written sink.new) }

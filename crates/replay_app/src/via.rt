@@ -1,17 +1,14 @@
 //! The command `via`: runs along a given map of a policy's tree into a topology, which is embedded
 //! into the target.
-ghost use Rattle.std.specs.Prelude.{◌≡◌, ◌<◌, ◌≤◌, ◌^◌, ◌∷◌, ◌++◌, [], IfOk, OnOk, OnErr, IsErrOf};
+ghost use Rattle.std.specs.Prelude.{◌≡◌, ◌<◌, ◌≤◌, ◌∷◌, ◌++◌, [], IfOk, OnOk, OnErr, IsErrOf};
 ghost use Rattle.outside_core.specs.Faults.{Rose};
 ghost use Rattle.outside_core.specs.Written.{Appended, AppendedPrefix};
-ghost use Rattle.tree_defs.specs.Tree.{SameShape, nodes};
-ghost use Rattle.tree_defs.specs.Topology.{topology_of, complete};
+ghost use Rattle.tree_defs.specs.Tree.{nodes};
 ghost use Rattle.tree_core.specs.Shape.{topology};
 ghost use Rattle.target_defs.specs.Target.{IsInRange};
-ghost use Rattle.embed_defs.specs.Images.{image_map};
-ghost use Rattle.embed_defs.specs.Embedding.{IsEmbedding};
 ghost use Rattle.mapcheck_core.specs.GivenMaps.{IsWithinLimits};
 ghost use Rattle.sched_embedded.specs.Fabrics.{IsAsItWas};
-ghost use Rattle.sched_capture.specs.Placements.{laid_by};
+ghost use Rattle.sched_capture.specs.Placements.{laid_by, IsPlaced, CanCount};
 ghost use Rattle.replay_app.specs.Answer.{HoldsRun, IsTold};
 ghost use Rattle.replay_app.specs.Named.{via_form};
 ghost use Rattle.replay_app.specs.Output.{IsOutput};
@@ -19,6 +16,7 @@ ghost use Rattle.replay_app.specs.Stages.{BehindScript, AlongTarget, AlongMap, B
 ghost use Rattle.replay_app.specs.Statuses.{IsOneOf, IsRefusal, run_statuses, statuses_of, status_code};
 ghost use Rattle.replay_app.specs.Via.{IsRoute, NamesNodes, map_refusal, names_of, pair_line, pair_text};
 ghost use Rattle.replay_app.specs.Words.{AreLent, WhereTold, file_words};
+ghost use Rattle.replay_app.specs.Causes.{HasCauses};
 
 use crate::maps::read_map_file;
 use crate::policies::read_policy;
@@ -110,12 +108,8 @@ fn run_alone<S: Shelf, K: Sink, F: Fabric>(
 ) -> Result<Status, Stop>
     requires lent { AreLent (S.lends shelf.old) (files.now.capture.now ∷ files.now.script.now ∷
         []) }
-    requires range { IsInRange placement.target.arities placement.target.above }
-    requires map_shape { SameShape (topology_of policy.now.policy.tree) placement.map }
-    requires embedding { IsEmbedding (topology_of policy.now.policy.tree)
-        (complete placement.target.arities) (image_map placement.map) }
-    requires pushes { F.pushed fabric.old < 2 ^ 61 }
-    requires pops { F.popped fabric.old < 2 ^ 61 }
+    requires placed { IsPlaced policy.now.policy placement }
+    requires counts { CanCount F.Fabric fabric.old }
 
     ensures answer { WhereTold (S.content shelf.old) (files.now.capture.now ∷ files.now.script.now ∷
         []) (λ contents.
@@ -126,10 +120,8 @@ fn run_alone<S: Shelf, K: Sink, F: Fabric>(
         HoldsRun F.Fabric (BehindScript [] policy.now (laid_by placement) files.now.script.now files.now.capture.now contents)
         result fabric.old fabric.new) }
     ensures statuses { IfOk result (λ s. IsOneOf run_statuses (status_code s)) }
-    ensures shelf_cause { IsErrOf result Stop.Source → Rose (S.faults shelf.old)
-        (S.faults shelf.new) }
-    ensures sink_cause { IsErrOf result Stop.Sink → Rose (K.faults sink.old) (K.faults sink.new) }
-    ensures sink_later { K.faults sink.old ≤ K.faults sink.new }
+    ensures causes { HasCauses result (S.faults shelf.old) (S.faults shelf.new) (K.faults sink.old)
+        (K.faults sink.new) }
 {
     let mut watch: Watching<OrderTap> = Watching::new(alloc, Named::none(), Vec::new(alloc));
     replay_script(
@@ -153,8 +145,7 @@ fn via_placed<S: Shelf, K: Sink, F: Fabric>(
     requires route { IsRoute route.now.policy.now.policy (topology route.now.middle.now)
         route.now.given.now }
     requires range { IsInRange target.arities target.above }
-    requires pushes { F.pushed fabric.old < 2 ^ 61 }
-    requires pops { F.popped fabric.old < 2 ^ 61 }
+    requires counts { CanCount F.Fabric fabric.old }
 
     ensures answer { WhereTold (S.content shelf.old) (files.now.capture.now ∷ files.now.script.now ∷
         []) (λ contents.
@@ -167,10 +158,8 @@ fn via_placed<S: Shelf, K: Sink, F: Fabric>(
     ensures statuses { IfOk result (λ s. IsOneOf (5 ∷ run_statuses) (status_code s)) }
     ensures refused { IfOk result (λ s. IsRefusal (status_code s) →
         IsAsItWas F.Fabric fabric.old fabric.new) }
-    ensures shelf_cause { IsErrOf result Stop.Source → Rose (S.faults shelf.old)
-        (S.faults shelf.new) }
-    ensures sink_cause { IsErrOf result Stop.Sink → Rose (K.faults sink.old) (K.faults sink.new) }
-    ensures sink_later { K.faults sink.old ≤ K.faults sink.new }
+    ensures causes { HasCauses result (S.faults shelf.old) (S.faults shelf.new) (K.faults sink.old)
+        (K.faults sink.new) }
 {
     match embed(alloc, route.middle, &target) {
         Ok(laid) => {
@@ -200,8 +189,7 @@ fn via_target<S: Shelf, K: Sink, F: Fabric>(
         files.now.script.now ∷ []) }
     requires route { IsRoute route.now.policy.now.policy (topology route.now.middle.now)
         route.now.given.now }
-    requires pushes { F.pushed fabric.old < 2 ^ 61 }
-    requires pops { F.popped fabric.old < 2 ^ 61 }
+    requires counts { CanCount F.Fabric fabric.old }
 
     ensures answer { WhereTold (S.content shelf.old)
         (files.now.target.now ∷ files.now.capture.now ∷ files.now.script.now ∷ []) (λ contents.
@@ -214,10 +202,8 @@ fn via_target<S: Shelf, K: Sink, F: Fabric>(
     ensures statuses { IfOk result (λ s. IsOneOf (4 ∷ 5 ∷ run_statuses) (status_code s)) }
     ensures refused { IfOk result (λ s. IsRefusal (status_code s) →
         IsAsItWas F.Fabric fabric.old fabric.new) }
-    ensures shelf_cause { IsErrOf result Stop.Source → Rose (S.faults shelf.old)
-        (S.faults shelf.new) }
-    ensures sink_cause { IsErrOf result Stop.Sink → Rose (K.faults sink.old) (K.faults sink.new) }
-    ensures sink_later { K.faults sink.old ≤ K.faults sink.new }
+    ensures causes { HasCauses result (S.faults shelf.old) (S.faults shelf.new) (K.faults sink.old)
+        (K.faults sink.new) }
 {
     match read_target_file(alloc, shelf, files.target)? {
         Read::Accepted(target) => via_placed(alloc, route, target, files, shelf, sink, fabric),
@@ -238,8 +224,7 @@ fn via_map<S: Shelf, K: Sink, F: Fabric>(
     requires lent { AreLent (S.lends shelf.old)
         (files.now.map.now ∷ files.now.target.now ∷ files.now.capture.now ∷ files.now.script.now ∷ []) }
     requires middle { IsWithinLimits (topology middle.now) }
-    requires pushes { F.pushed fabric.old < 2 ^ 61 }
-    requires pops { F.popped fabric.old < 2 ^ 61 }
+    requires counts { CanCount F.Fabric fabric.old }
 
     ensures answer { WhereTold (S.content shelf.old)
         (files.now.map.now ∷ files.now.target.now ∷ files.now.capture.now ∷ files.now.script.now ∷ []) (λ contents.
@@ -251,10 +236,8 @@ fn via_map<S: Shelf, K: Sink, F: Fabric>(
     ensures statuses { IfOk result (λ s. IsOneOf (13 ∷ 4 ∷ 5 ∷ run_statuses) (status_code s)) }
     ensures refused { IfOk result (λ s. IsRefusal (status_code s) →
         IsAsItWas F.Fabric fabric.old fabric.new) }
-    ensures shelf_cause { IsErrOf result Stop.Source → Rose (S.faults shelf.old)
-        (S.faults shelf.new) }
-    ensures sink_cause { IsErrOf result Stop.Sink → Rose (K.faults sink.old) (K.faults sink.new) }
-    ensures sink_later { K.faults sink.old ≤ K.faults sink.new }
+    ensures causes { HasCauses result (S.faults shelf.old) (S.faults shelf.new) (K.faults sink.old)
+        (K.faults sink.new) }
 {
     match read_map_file(alloc, policy, middle, shelf, files.map)? {
         Read::Accepted(tried) => match tried.fault {
@@ -284,8 +267,7 @@ fn via_topology<S: Shelf, K: Sink, F: Fabric>(
     requires lent { AreLent (S.lends shelf.old) (files.now.topology.now ∷ files.now.map.now ∷
         files.now.target.now
         ∷ files.now.capture.now ∷ files.now.script.now ∷ []) }
-    requires pushes { F.pushed fabric.old < 2 ^ 61 }
-    requires pops { F.popped fabric.old < 2 ^ 61 }
+    requires counts { CanCount F.Fabric fabric.old }
 
     ensures answer { WhereTold (S.content shelf.old) (files.now.topology.now ∷ files.now.map.now ∷
         files.now.target.now
@@ -298,10 +280,8 @@ fn via_topology<S: Shelf, K: Sink, F: Fabric>(
     ensures statuses { IfOk result (λ s. IsOneOf (12 ∷ 13 ∷ 4 ∷ 5 ∷ run_statuses) (status_code s)) }
     ensures refused { IfOk result (λ s. IsRefusal (status_code s) →
         IsAsItWas F.Fabric fabric.old fabric.new) }
-    ensures shelf_cause { IsErrOf result Stop.Source → Rose (S.faults shelf.old)
-        (S.faults shelf.new) }
-    ensures sink_cause { IsErrOf result Stop.Sink → Rose (K.faults sink.old) (K.faults sink.new) }
-    ensures sink_later { K.faults sink.old ≤ K.faults sink.new }
+    ensures causes { HasCauses result (S.faults shelf.old) (S.faults shelf.new) (K.faults sink.old)
+        (K.faults sink.new) }
 {
     match read_topology(alloc, shelf, files.topology)? {
         Read::Accepted(middle) => via_map(alloc, policy, &middle, files, shelf, sink, fabric),
@@ -319,8 +299,7 @@ pub fn via_files<S: Shelf, K: Sink, F: Fabric>(
     fabric: &mut F,
 ) -> Result<Status, Stop>
     requires lent { AreLent (S.lends shelf.old) (file_words (via_form files.now)) }
-    requires pushes { F.pushed fabric.old < 2 ^ 61 }
-    requires pops { F.popped fabric.old < 2 ^ 61 }
+    requires counts { CanCount F.Fabric fabric.old }
 
     ensures answer { WhereTold (S.content shelf.old) (file_words (via_form files.now)) (λ contents.
         IsTold (IsOutput (via_form files.now) contents []) result (K.written sink.old) (K.written sink.new)) }
@@ -330,10 +309,8 @@ pub fn via_files<S: Shelf, K: Sink, F: Fabric>(
         (status_code s)) }
     ensures refused { IfOk result (λ s. IsRefusal (status_code s) →
         IsAsItWas F.Fabric fabric.old fabric.new) }
-    ensures shelf_cause { IsErrOf result Stop.Source → Rose (S.faults shelf.old)
-        (S.faults shelf.new) }
-    ensures sink_cause { IsErrOf result Stop.Sink → Rose (K.faults sink.old) (K.faults sink.new) }
-    ensures sink_later { K.faults sink.old ≤ K.faults sink.new }
+    ensures causes { HasCauses result (S.faults shelf.old) (S.faults shelf.new) (K.faults sink.old)
+        (K.faults sink.new) }
 {
     match read_policy(alloc, shelf, files.policy)? {
         Read::Accepted(judged) => via_topology(alloc, &judged.policy, files, shelf, sink, fabric),

@@ -1,6 +1,5 @@
 //! Runs through the fabric with taps.
-ghost use Rattle.std.specs.Prelude.{◌≡◌, ◌<◌, ◌≤◌, ◌^◌, vec_len, IfOk, IsErrOf};
-ghost use Rattle.outside_core.specs.Faults.{Rose};
+ghost use Rattle.std.specs.Prelude.{◌≡◌, ◌<◌, ◌≤◌, vec_len, IfOk};
 ghost use Rattle.sched_embedded.specs.Fabrics.{IsAsItWas};
 ghost use Rattle.replay_app.specs.Answer.{IsTold};
 ghost use Rattle.replay_app.specs.Behind.{IsLeftOf, UsesNoTaps};
@@ -9,6 +8,8 @@ ghost use Rattle.replay_app.specs.Output.{IsOutput};
 ghost use Rattle.replay_app.specs.Statuses.{IsOneOf, IsRefusal, statuses_of, status_code};
 ghost use Rattle.replay_app.specs.Words.{AreLent, WhereTold, file_words};
 ghost use Rattle.tap_core.specs.Lists.{entries};
+ghost use Rattle.sched_capture.specs.Placements.{CanCount};
+ghost use Rattle.replay_app.specs.Causes.{HasCauses};
 
 use crate::replay::replay_files;
 use crate::status::Status;
@@ -31,8 +32,7 @@ pub fn replay_watched<S: Shelf, K: Sink, F: Fabric, T: Tap>(
 ) -> Result<Status, Stop>
     requires lent { AreLent (S.lends shelf.old) (file_words (replay_form files.now)) }
     requires rate { HasRate files.now.pacing }
-    requires pushes { F.pushed fabric.old < 2 ^ 61 }
-    requires pops { F.popped fabric.old < 2 ^ 61 }
+    requires counts { CanCount F.Fabric fabric.old }
 
     ensures answer { WhereTold (S.content shelf.old) (file_words (replay_form files.now))
         (λ contents.
@@ -50,10 +50,8 @@ pub fn replay_watched<S: Shelf, K: Sink, F: Fabric, T: Tap>(
         → entries T.kind_of T.state_of taps.new.items ≡ entries T.kind_of T.state_of taps.old.items) }
     ensures unshown { UsesNoTaps (replay_form files.now)
         → entries T.kind_of T.state_of taps.new.items ≡ entries T.kind_of T.state_of taps.old.items }
-    ensures shelf_cause { IsErrOf result Stop.Source → Rose (S.faults shelf.old)
-        (S.faults shelf.new) }
-    ensures sink_cause { IsErrOf result Stop.Sink → Rose (K.faults sink.old) (K.faults sink.new) }
-    ensures sink_later { K.faults sink.old ≤ K.faults sink.new }
+    ensures causes { HasCauses result (S.faults shelf.old) (S.faults shelf.new) (K.faults sink.old)
+        (K.faults sink.new) }
 {
     match files.pacing {
         Pacing::Script(_, named) => {

@@ -1,10 +1,9 @@
 -- A run over the packets left of a capture is the run over its file.
-use Rattle.std.proofs.Common.{◌≡◌, ◌≤◌, refl, ℕ, Option, None, Some, Result, Ok, Err, List}
-use Rattle.std.specs.Prelude.{IfSome, IfOk, IfErr, OnOk, OnErr, IsErrOf}
-use Rattle.std.proofs.lemmas.Result.{IfOk-weaker, on_ok_weaker, on_err_weaker}
-use Rattle.outside_core.specs.Faults.{Rose}
-use Rattle.outside_core.specs.Kept.{HasCause}
-use Rattle.outside_core.specs.Written.{Appended, AppendedPrefix}
+use Rattle.std.proofs.Common.{◌≡◌, ◌≤◌, refl, arith, ℕ, Option, None, Some, Result, Ok, Err, List}
+use Rattle.std.specs.Prelude.{IfSome, IfOk, IfErr, OnOk}
+use Rattle.std.proofs.lemmas.Result.{on_ok_weaker}
+use Rattle.outside_core.specs.Kept.{KeepsSink, HasCause}
+use Rattle.outside_core.proofs.KeptLaws.{sink-then}
 use Rattle.outside_core.specs.declared.stop.Stop.{Stop}
 use Rattle.outside_core.specs.declared.stop.Stop.TheVariants.{Source, Sink, Memory}
 use Rattle.outside_core.proofs.FaultLaws.{rose_after}
@@ -19,6 +18,7 @@ use Rattle.sched_run.specs.declared.pace.Pace as code
 use Rattle.sched_run.specs.declared.pace.Pace.TheVariants as code_pace
 use Rattle.sched_packets.specs.Arrivals.{Begins}
 use Rattle.tap_core.specs.Watching.{Sight}
+use Rattle.sched_capture.specs.Outside.{IsReported, KeepsOutside}
 use Rattle.sched_capture.specs.Answers.{RunAnswer, IsRefusal, answer_of, answer_over, paced_answer, shown_by, HaveWatched}
 
 module _ (policy : Resolved) (pace : Pace) where
@@ -33,19 +33,9 @@ module _ (policy : Resolved) (pace : Pace) where
   over_file P None left begins each = tt
   over_file P (Some file) left begins each = over_contents P (in_file file) left begins each
 
-  pub ending_of : (r : Result Ending Stop) (told : Option (List ℕ)) (left : Option Left) → IfSome told (λ file. Begins policy (in_file file) left)
-      → IfOk r (λ e. IfSome left (λ l. e ≡ (answer_of policy.policy pace l.packets l.fault).ending)) → IfOk r (λ e. IfSome told (λ file. e ≡ (paced_answer policy pace file).ending))
-  ending_of r told left begins each =
-      IfOk-weaker r (λ e. IfSome left (λ l. e ≡ (answer_of policy.policy pace l.packets l.fault).ending)) (λ e. IfSome told (λ file. e ≡ (paced_answer policy pace file).ending))
-      (λ e. over_file (λ a. e ≡ a.ending) told left begins) each
-
-  pub text_of_file : (r : Result Ending Stop) (told : Option (List ℕ)) (left : Option Left) (before written : Option (List ℕ)) → IfSome told (λ file. Begins policy (in_file file) left)
-      → OnOk r (IfSome left (λ l. Appended before written (answer_of policy.policy pace l.packets l.fault).text)) → OnOk r (IfSome told (λ file. Appended before written (paced_answer policy pace file).text))
-  text_of_file r told left before written begins each = on_ok_weaker r (over_file (λ a. Appended before written a.text) told left begins) each
-
-  pub part_of_file : (r : Result Ending Stop) (told : Option (List ℕ)) (left : Option Left) (before written : Option (List ℕ)) → IfSome told (λ file. Begins policy (in_file file) left)
-      → OnErr r (IfSome left (λ l. AppendedPrefix before written (answer_of policy.policy pace l.packets l.fault).text)) → OnErr r (IfSome told (λ file. AppendedPrefix before written (paced_answer policy pace file).text))
-  part_of_file r told left before written begins each = on_err_weaker r (over_file (λ a. AppendedPrefix before written a.text) told left begins) each
+  pub report_of_file : (r : Result Ending Stop) (told : Option (List ℕ)) (left : Option Left) (before written : Option (List ℕ)) → IfSome told (λ file. Begins policy (in_file file) left)
+      → IfSome left (λ l. IsReported r (answer_of policy.policy pace l.packets l.fault) before written) → IfSome told (λ file. IsReported r (paced_answer policy pace file) before written)
+  report_of_file r told left before written = over_file (λ a. IsReported r a before written) told left
 
   pub watched_of_file : (r : Result Ending Stop) (told : Option (List ℕ)) (left : Option Left) (before after : Sight) → IfSome told (λ file. Begins policy (in_file file) left)
       → OnOk r (IfSome left (λ l. HaveWatched (shown_by policy.policy (answer_of policy.policy pace l.packets l.fault)) before after))
@@ -60,19 +50,18 @@ module _ (policy : Resolved) (pace : Pace) where
   unwatched (Ok e) (Some file) before written sight refused = rw (refused.is) refl
   unwatched (Err stop) told before written sight refused = tt
 
--- ---- the cause of a stop
-module _ {S K : Type 0} (source_faults : S → ℕ) (s s' s'' : S) (sink_faults : K → ℕ) (k k' k'' : K) where
-  pub sink_rose : {X : Type 0} (r : Result X Stop) → sink_faults k ≤ sink_faults k' → IfErr r (λ stop. HasCause stop source_faults s' s'' sink_faults k' k'') → IsErrOf r Sink → Rose (sink_faults k) (sink_faults k'')
-  sink_rose (Ok e) later cause is = cc
-  sink_rose (Err Source) later cause is = cc
-  sink_rose (Err Sink) later cause is = rose_after (sink_faults k) (sink_faults k') (sink_faults k'') later cause
-  sink_rose (Err Memory) later cause is = cc
-
-  pub source_rose : {X : Type 0} (r : Result X Stop) → source_faults s ≤ source_faults s' → IfErr r (λ stop. HasCause stop source_faults s' s'' sink_faults k' k'') → IsErrOf r Source → Rose (source_faults s) (source_faults s'')
-  source_rose (Ok e) later cause is = cc
-  source_rose (Err Source) later cause is = rose_after (source_faults s) (source_faults s') (source_faults s'') later cause
-  source_rose (Err Sink) later cause is = cc
-  source_rose (Err Memory) later cause is = cc
+-- ---- what is left outside
+-- a call that may write, and then a run
+pub outside_after : {S K X : Type 0} (source_faults : S → ℕ) (s s' s'' : S) (written : K → Option (List ℕ)) (sink_faults : K → ℕ) (k k' k'' : K) (r : Result X Stop)
+    → source_faults s ≤ source_faults s' → KeepsSink written sink_faults k k' → KeepsOutside r source_faults s' s'' written sink_faults k' k'' → KeepsOutside r source_faults s s'' written sink_faults k k''
+outside_after source_faults s s' s'' written sink_faults k k' k'' r later kept o =
+    record { kept = sink-then written sink_faults k k' k'' kept o.kept; later = let l : source_faults s' ≤ source_faults s'' = o.later in omega arith; cause = after r o.cause }
+  where
+    after : {X : Type 0} (r : Result X Stop) → IfErr r (λ stop. HasCause stop source_faults s' s'' sink_faults k' k'') → IfErr r (λ stop. HasCause stop source_faults s s'' sink_faults k k'')
+    after (Ok e) cause = tt
+    after (Err Source) cause = rose_after (source_faults s) (source_faults s') (source_faults s'') later cause
+    after (Err Sink) cause = rose_after (sink_faults k) (sink_faults k') (sink_faults k'') kept.later cause
+    after (Err Memory) cause = tt
 
 -- ---- the possible endings of a run
 -- an ending that isn't past the last packet is possible at any pace

@@ -1,13 +1,10 @@
 -- The answer of a run over packets of one link type, for the file of these packets.
-use Rattle.std.proofs.Common.{◌≡◌, ◌≤◌, ℕ, Option, None, Some, Result, Ok, Err, List, sym, ap, ◌∙◌, subst}
-use Rattle.std.specs.Prelude.{IfSome, IfErr, OnOk, OnErr}
+use Rattle.std.proofs.Common.{◌≡◌, ℕ, Option, None, Some, Result, Ok, Err, List, sym, ap, ◌∙◌, subst}
+use Rattle.std.specs.Prelude.{IfSome, OnOk, OnErr}
 use Rattle.std.proofs.lemmas.Option.{IfSome_then}
 use Rattle.std.proofs.lemmas.Result.{on_ok_weaker, on_err_weaker}
 use Rattle.outside_core.specs.Written.{Appended, AppendedPrefix}
-use Rattle.outside_core.specs.Kept.{HasCause}
 use Rattle.outside_core.specs.declared.stop.Stop.{Stop}
-use Rattle.outside_core.specs.declared.stop.Stop.TheVariants.{Source, Sink, Memory}
-use Rattle.outside_core.proofs.FaultLaws.{rose_after}
 use Rattle.outside_core.proofs.WrittenLaws.{appended_in_turn, appended_nothing, prefix_in_turn, prefix_of_longer, prefix_of_nothing}
 use Rattle.policy_defs.specs.Policy.{Policy}
 use Rattle.pcap_core.specs.Bytes.{header_bytes}
@@ -56,14 +53,6 @@ module _ (policy : Policy) (rate : LinkRate) (link : ℕ) (left : Option Left) (
       → OnOk r (IfSome left (λ l. (captured : Captured) → known captured → Appended a c (forward_of policy rate link captured l).text))
   all_records a b c header records = on_ok_weaker r (λ all. IfSome_then left all
       (λ l each captured h. appended_in_turn a b c (header_bytes link) (sent_bytes captured (outcomes policy (forward_events policy rate l) (start policy))) header (each captured h))) records
-
--- a cause after a call that wrote
-pub cause_behind : {S K : Type 0} (source_faults : S → ℕ) (s s' : S) (sink_faults : K → ℕ) (k k' k'' : K) (r : Result ForwardEnding Stop) → sink_faults k ≤ sink_faults k'
-    → IfErr r (λ stop. HasCause stop source_faults s s' sink_faults k' k'') → IfErr r (λ stop. HasCause stop source_faults s s' sink_faults k k'')
-cause_behind source_faults s s' sink_faults k k' k'' (Ok e) later cause = tt
-cause_behind source_faults s s' sink_faults k k' k'' (Err Source) later cause = cause
-cause_behind source_faults s s' sink_faults k k' k'' (Err Sink) later cause = rose_after (sink_faults k) (sink_faults k') (sink_faults k'') later cause
-cause_behind source_faults s s' sink_faults k k' k'' (Err Memory) later cause = tt
 
 -- ---- the run begins
 module _ (policy : Resolved) (rate : LinkRate) (told : Option (List ℕ)) (left : Option Left) (known : Captured → Type 0) (link : ℕ) where

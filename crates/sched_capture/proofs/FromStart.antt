@@ -29,6 +29,7 @@ use Rattle.tap_core.specs.Watching.{Sight, Begins as TapsBegin, Shows, Watches}
 use Rattle.tap_core.proofs.WatchLaws.{begins_shows}
 use Rattle.sched_capture.specs.Answers.{answer_of}
 use Rattle.report_core.proofs.WholeTexts.{cut_part, whole_text}
+use Rattle.sched_capture.specs.Outside.{IsReported}
 
 pub stand_at_start : {C U : Type 0} (stands : C → U → SourceState → Type 0) (own policy : Policy) (c : C) (u : U) (given : ℕ) → own ≡ policy → IsAccepted policy → stands c u (start policy)
     → StandForOne stands own c u (CanBegin given)
@@ -42,25 +43,37 @@ module _ {C U : Type 0} (S : Ghosts C U) (own policy : Policy) (pace : Pace) (gi
   at_start P None each = tt
   at_start P (Some l) each = each (start policy) (sound_start policy accepted) stood (start_can_begin policy given).held
 
-  pub ending_told : (r : Result Ending Stop) (left : Option Left) → IfOk r (λ e. OnCourse S.stands own old under given left (course_of own pace) (λ s run. e ≡ run.ending))
+  ending_told : (r : Result Ending Stop) (left : Option Left) → IfOk r (λ e. OnCourse S.stands own old under given left (course_of own pace) (λ s run. e ≡ run.ending))
       → IfOk r (λ e. IfSome left (λ l. e ≡ (answer_of policy (pace_of pace) l.packets l.fault).ending))
   ending_told r left each =
       IfOk-weaker r (λ e. OnCourse S.stands policy old under given left (course_of policy pace) (λ s run. e ≡ run.ending)) (λ e. IfSome left (λ l. e ≡ (answer_of policy (pace_of pace) l.packets l.fault).ending))
       (λ e. at_start (λ s run. e ≡ run.ending) left) (rw same at each)
 
-  pub text_told : (r : Result Ending Stop) (left : Option Left) (new : C) (u : U) (before written : Option (List ℕ)) (held : List ℕ) → held ≡ []
+  text_told : (r : Result Ending Stop) (left : Option Left) (new : C) (u : U) (before written : Option (List ℕ)) (held : List ℕ) → held ≡ []
       → OnOk r (OnCourse S.stands own old under given left (course_of own pace) (λ s run. Runs S own run s old under new u (appended before held) written))
       → OnOk r (IfSome left (λ l. Appended before written (answer_of policy (pace_of pace) l.packets l.fault).text))
   text_told r left new u before written held none each =
       on_ok_weaker r (λ all. IfSome_then left (at_start (λ s run. Runs S policy run s old under new u (appended before held) written) left all)
       (λ l runs. whole_text before written held (answer_of policy (pace_of pace) l.packets l.fault).text none runs.report)) (rw same at each)
 
-  pub part_told : (r : Result Ending Stop) (left : Option Left) (new : C) (u : U) (before written : Option (List ℕ)) (held : List ℕ) → held ≡ [] → Begins before written
+  part_told : (r : Result Ending Stop) (left : Option Left) (new : C) (u : U) (before written : Option (List ℕ)) (held : List ℕ) → held ≡ [] → Begins before written
       → OnErr r (OnCourse S.stands own old under given left (course_of own pace) (λ s run. Breaks S own run s old under new u (appended before held) written))
       → OnErr r (IfSome left (λ l. AppendedPrefix before written (answer_of policy (pace_of pace) l.packets l.fault).text))
   part_told r left new u before written held none begins each =
       on_err_weaker r (λ all. IfSome_then left (at_start (λ s run. Breaks S policy run s old under new u (appended before held) written) left all)
       (λ l breaks. cut_part before written held (answer_of policy (pace_of pace) l.packets l.fault).text none begins breaks.report)) (rw same at each)
+
+  pub reported : (r : Result Ending Stop) (left : Option Left) (new : C) (u : U) (before written : Option (List ℕ)) (held : List ℕ) → held ≡ [] → Begins before written
+      → IfOk r (λ e. OnCourse S.stands own old under given left (course_of own pace) (λ s run. e ≡ run.ending))
+      → OnOk r (OnCourse S.stands own old under given left (course_of own pace) (λ s run. Runs S own run s old under new u (appended before held) written))
+      → OnErr r (OnCourse S.stands own old under given left (course_of own pace) (λ s run. Breaks S own run s old under new u (appended before held) written))
+      → IfSome left (λ l. IsReported r (answer_of policy (pace_of pace) l.packets l.fault) before written)
+  reported r None new u before written held none begins ends runs breaks = tt
+  reported r (Some l) new u before written held none begins ends runs breaks = record {
+    ending = ending_told r (Some l) ends;
+    text = text_told r (Some l) new u before written held none runs;
+    part = part_told r (Some l) new u before written held none begins breaks;
+  }
 
   pub state_told : (r : Result Ending Stop) (left : Option Left) (new : C) (u : U) (text written : Option (List ℕ))
       → OnOk r (OnCourse S.stands own old under given left (course_of own pace) (λ s run. Runs S own run s old under new u text written))

@@ -1,8 +1,6 @@
 -- The answer for a file that is no capture.
 use Rattle.std.proofs.Common.{◌≡◌, ℕ, Option, None, Some, Result, Ok, Err, List, [], sym, subst}
 use Rattle.std.specs.Prelude.{IfSome, IfOk, OnOk, OnErr, codes}
-use Rattle.std.proofs.lemmas.Option.{IfSome_then}
-use Rattle.std.proofs.lemmas.Result.{on_err_weaker}
 use Rattle.outside_core.specs.Written.{Appended, AppendedPrefix}
 use Rattle.outside_core.proofs.WrittenLaws.{appended_nothing, prefix_of_nothing}
 use Rattle.pcap_defs.specs.Contents.{FaultAt, FileContents, no_capture, holds}
@@ -13,7 +11,8 @@ use Rattle.sched_defs.specs.declared.ending.Ending.{Ending}
 use Rattle.sched_defs.specs.declared.ending.Ending.TheVariants.{BadCapture}
 use Rattle.outside_core.specs.declared.stop.Stop.{Stop}
 use Rattle.policy_rules.specs.Resolved.{Resolved}
-use Rattle.sched_capture.specs.Answers.{IsRefusal, IsRefusalPart, refusal_answer, answer_over, paced_answer}
+use Rattle.sched_capture.specs.Answers.{RunAnswer, IsRefusal, IsRefusalPart, refusal_answer, answer_over, paced_answer}
+use Rattle.sched_capture.specs.Outside.{IsReported}
 
 -- after the fault line is written, the answer is that of a rejected file
 pub refusal_told : (c p : ℕ) (before written : Option (List ℕ)) (r : Result Ending Stop) (told : Option (List ℕ)) → IfOk r (λ e. e ≡ BadCapture c p)
@@ -45,11 +44,19 @@ refused_part c p old new (Ok e) told is part = tt
 refused_part c p old new (Err stop) None is part = tt
 refused_part c p old new (Err stop) (Some file) is part = told_part (in_file file) (record { code = c; place = p }) old new is part
 
--- so it is a prefix of the report of each run
-pub part_of_report : (policy : Resolved) (pace : Pace) (r : Result Ending Stop) (told old new : Option (List ℕ)) → OnErr r (IfSome told (λ file. IsRefusalPart (in_file file) old new))
-    → OnErr r (IfSome told (λ file. AppendedPrefix old new (paced_answer policy pace file).text))
-part_of_report policy pace r told old new = on_err_weaker r (λ all. IfSome_then told all (λ file part. of_file (in_file file) part))
-  where
-    of_file : (file : FileContents) → IsRefusalPart file old new → AppendedPrefix old new (answer_over policy pace file).text
-    of_file (no_capture fault) part = part
-    of_file (holds contents) nothing = prefix_of_nothing old new (answer_over policy pace (holds contents)).text nothing
+-- that is the report of each run
+module _ (policy : Resolved) (pace : Pace) (old new : Option (List ℕ)) where
+  of_file : (file : FileContents) → IsRefusalPart file old new → AppendedPrefix old new (answer_over policy pace file).text
+  of_file (no_capture fault) part = part
+  of_file (holds contents) nothing = prefix_of_nothing old new (answer_over policy pace (holds contents)).text nothing
+
+  pub refused_report : (r : Result Ending Stop) (told : Option (List ℕ)) → IfOk r (λ e. IfSome told (λ file. IsRefusal (in_file file) e old new))
+      → OnErr r (IfSome told (λ file. IsRefusalPart (in_file file) old new)) → IfSome told (λ file. IsReported r (paced_answer policy pace file) old new)
+  refused_report r None refused part = tt
+  refused_report (Ok e) (Some file) refused part = rw (refused.is) (record { ending = refused.ends; text = refused.text; part = tt })
+  refused_report (Err stop) (Some file) refused part = record { ending = tt; text = tt; part = of_file (in_file file) part }
+
+-- a run that stops before it begins has written nothing
+pub unreported : {X : Type 0} (stop : Stop) (told : Option X) (w : Option (List ℕ)) (answer : X → RunAnswer) → IfSome told (λ x. IsReported (Err stop) (answer x) w w)
+unreported stop None w answer = tt
+unreported stop (Some x) w answer = record { ending = tt; text = tt; part = prefix_of_nothing w w (answer x).text (appended_nothing w) }

@@ -1,5 +1,5 @@
 -- A recorder of capture records: the captured bytes it keeps, and the records it writes.
-use Rattle.std.specs.Prelude.{◌≡◌, ℕ, nat_eq, Bool, Option, option_map, IsTrue, List}
+use Rattle.std.specs.Prelude.{◌≡◌, ℕ, nat_eq, Bool, Option, option_map, IsTrue, List, []}
 use Rattle.indexmap.specs.IndexMap.{get}
 use Rattle.outside_core.specs.Written.{Appended}
 use Rattle.report_defs.specs.Text.{IsCut}
@@ -31,6 +31,11 @@ pub record HoldsTheSame (k l : Keeping) : Type 0 where
 
 abbrev pub HoldsNothing : Forwarding → Type 0
 HoldsNothing f = HoldsTheSame (keeping_of f) keeps_nothing
+
+-- nothing was recorded yet
+pub record IsUnused (f : Forwarding) : Type 0 where
+  pub nothing : HoldsNothing f
+  pub none_gathered : f.gathered.unwritten ≡ []
 
 -- the bytes written and buffered grew by the records of the departures among the outcomes
 pub record TellsRecords (captured : Captured) (f : Forwarding) (a : Option (List ℕ)) (policy : Policy) (event : ℕ) (os : List Outcome) (g : Forwarding) (b : Option (List ℕ)) : Type 0 where

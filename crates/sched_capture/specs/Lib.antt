@@ -1,5 +1,7 @@
 pub mod Answers
 pub mod Placements
+pub mod Starts
+pub mod Outside
 pub mod Loads
 pub mod Laws
 pub mod Forwards

@@ -1,20 +1,18 @@
 //! A run over a capture through the policy's own tree of queues.
-ghost use Rattle.std.specs.Prelude.{◌≡◌, ◌≤◌, [], codes, IfOk, IfErr, IfSome, IsTrue, OnOk, OnErr, IsErrOf};
-ghost use Rattle.outside_core.specs.Faults.{Rose};
+ghost use Rattle.std.specs.Prelude.{◌≡◌, ◌≤◌, codes, IfOk, IfErr, IfSome, IsTrue, OnOk, OnErr};
 ghost use Rattle.outside_core.specs.Kept.{KeepsSink, HasCause, HasSinkCause};
 ghost use Rattle.outside_core.specs.Written.{Appended, AppendedPrefix};
 ghost use Rattle.report_defs.specs.Report.{fault_line};
 ghost use Rattle.pcapng_defs.specs.NgContents.{in_file};
 ghost use Rattle.sched_packets.specs.Arrivals.{Begins};
 ghost use Rattle.capture_core.specs.Captures.{Opens};
-ghost use Rattle.sched_packets.specs.CapturePackets.{resolved_of, policy_of, given_by, contents_of, left_of, IsReady};
+ghost use Rattle.sched_packets.specs.CapturePackets.{resolved_of, contents_of, left_of};
 ghost use Rattle.sched_defs.specs.SourceState.{start};
-ghost use Rattle.sched_core.specs.PolicyState.{policy_in};
-ghost use Rattle.sched_core.specs.Direct.{DirectStands};
-ghost use Rattle.sched_run.specs.Frames.{IsSet};
 ghost use Rattle.sched_run.specs.Stages.{IsFresh};
 ghost use Rattle.sched_run.specs.Steps.{pace_of, IsBounded, IsNoPastLast, CanEndSo};
 ghost use Rattle.sched_capture.specs.Answers.{IsRefusal, IsRefusalPart, answer_of, paced_answer};
+ghost use Rattle.sched_capture.specs.Starts.{IsAtStart, AreUnread};
+ghost use Rattle.sched_capture.specs.Outside.{IsReported, KeepsOutside};
 
 use crate::course::run_over;
 use crate::task::Task;
@@ -66,8 +64,7 @@ pub fn begin<'a, S: Shelf, K: Sink>(
     ensures begins { IfOk result (λ a. IfSome (S.content shelf.old capture.now) (λ file.
         Begins policy.now (in_file file) (left_of a (S.left shelf.new)))) }
     ensures policy { IfOk result (λ a. resolved_of a ≡ policy.now) }
-    ensures none_given { IfOk result (λ a. given_by a ≡ 0) }
-    ensures ready { IfOk result (λ a. IsReady a (S.begun shelf.new)) }
+    ensures unread { IfOk result (λ a. AreUnread policy.now.policy a (S.begun shelf.new)) }
     ensures unwritten { OnOk result (sink.new ≡ sink.old) }
 
     ensures refused { IfErr result (λ answer. IfOk answer (λ e.
@@ -99,14 +96,10 @@ pub fn direct_run<'a, W: Recorder>(
 ) -> Result<(Run<'a, Direct<'a>, Policy, W>, SourceTree), AllocError>
     requires live { W.live recorder }
 
-    ensures set { IfOk result (λ r. IsSet ⟦<Direct<'a> as Scheduler>⟧ W.Recorder (λ p.
-        p.policy) r.0) }
-    ensures recorder { IfOk result (λ r. r.0.recorder ≡ recorder) }
+    ensures start { IfOk result (λ r. IsAtStart ⟦<Direct<'a> as Scheduler>⟧ W.Recorder (λ p.
+        p.policy) policy.now.policy r.0 r.1) }
     ensures fresh { IfOk result (λ r. IsFresh r.0.tally) }
-    ensures policy { IfOk result (λ r. policy_in r.0.scheduler.own ≡ policy.now.policy) }
-    ensures stands { IfOk result (λ r. DirectStands r.0.scheduler r.1 (start policy.now.policy)) }
-    ensures pushes { IfOk result (λ r. r.0.scheduler.own.pushes ≡ 0) }
-    ensures departures { IfOk result (λ r. r.0.scheduler.own.departures ≡ 0) }
+    ensures recorder { IfOk result (λ r. r.0.recorder ≡ recorder) }
 {
     let (scheduler, tree) = Direct::new(alloc, policy)?;
     let run = Run::new(
@@ -129,22 +122,15 @@ fn direct_packets<S: Shelf, K: Sink>(
     shelf: &mut S,
     sink: &mut K,
 ) -> Result<Ending, Stop>
-    requires packets { policy_of packets.old ≡ policy.now.policy }
-    requires none_given { given_by packets.old ≡ 0 }
-    requires ready { IsReady packets.old (S.begun shelf.old) }
+    requires unread { AreUnread policy.now.policy packets.old (S.begun shelf.old) }
     requires bounded { IsBounded pace }
 
-    ensures ending { IfOk result (λ e. IfSome (left_of packets.old (S.left shelf.old)) (λ l.
-        e ≡ (answer_of policy.now.policy (pace_of pace.entry) l.packets l.fault).ending)) }
+    ensures report { IfSome (left_of packets.old (S.left shelf.old)) (λ l.
+        IsReported result (answer_of policy.now.policy (pace_of pace.entry) l.packets l.fault)
+        (K.written sink.old) (K.written sink.new)) }
     ensures ends { IfOk result (CanEndSo pace.entry) }
-    ensures text { OnOk result (IfSome (left_of packets.old (S.left shelf.old)) (λ l.
-        Appended (K.written sink.old) (K.written sink.new) (answer_of policy.now.policy (pace_of pace.entry) l.packets l.fault).text)) }
-    ensures part { OnErr result (IfSome (left_of packets.old (S.left shelf.old)) (λ l.
-        AppendedPrefix (K.written sink.old) (K.written sink.new) (answer_of policy.now.policy (pace_of pace.entry) l.packets l.fault).text)) }
-    ensures kept { KeepsSink K.written K.faults sink.old sink.new }
-    ensures later { S.faults shelf.old ≤ S.faults shelf.new }
-    ensures cause { IfErr result (λ stop. HasCause stop S.faults shelf.old shelf.new K.faults
-        sink.old sink.new) }
+    ensures outside { KeepsOutside result S.faults shelf.old shelf.new K.written K.faults sink.old
+        sink.new }
 {
     let report = Report::new(alloc)?;
     let (mut run, mut tree) = direct_run(alloc, policy, report)?;
@@ -168,18 +154,12 @@ pub fn direct<S: Shelf, K: Sink>(
     requires lent { IsTrue (S.lends shelf.old task.now.capture.now) }
     requires bounded { IsBounded task.now.pace }
 
+    ensures report { IfSome (S.content shelf.old task.now.capture.now) (λ file.
+        IsReported result (paced_answer policy.now (pace_of task.now.pace) file)
+        (K.written sink.old) (K.written sink.new)) }
     ensures ends { IfOk result (CanEndSo task.now.pace) }
-    ensures ending { IfOk result (λ e. IfSome (S.content shelf.old task.now.capture.now) (λ file.
-        e ≡ (paced_answer policy.now (pace_of task.now.pace) file).ending)) }
-    ensures text { OnOk result (IfSome (S.content shelf.old task.now.capture.now) (λ file.
-        Appended (K.written sink.old) (K.written sink.new) (paced_answer policy.now (pace_of task.now.pace) file).text)) }
-    ensures part { OnErr result (IfSome (S.content shelf.old task.now.capture.now) (λ file.
-        AppendedPrefix (K.written sink.old) (K.written sink.new) (paced_answer policy.now (pace_of task.now.pace) file).text)) }
-    ensures sink_cause { IsErrOf result Stop.Sink → Rose (K.faults sink.old) (K.faults sink.new) }
-    ensures source_cause { IsErrOf result Stop.Source → Rose (S.faults shelf.old)
-        (S.faults shelf.new) }
-    ensures kept { KeepsSink K.written K.faults sink.old sink.new }
-    ensures later { S.faults shelf.old ≤ S.faults shelf.new }
+    ensures outside { KeepsOutside result S.faults shelf.old shelf.new K.written K.faults sink.old
+        sink.new }
 {
     match begin(alloc, policy, task.capture, shelf, sink) {
         Ok(mut packets) => direct_packets(alloc, policy, task.pace, &mut packets, shelf, sink),

@@ -1,15 +1,8 @@
 //! Runs of a link whose departures are written as a capture.
-ghost use Rattle.std.specs.Prelude.{◌≡◌, ◌≤◌, ℕ, Some, ◌<◌, ◌^◌, ◌++◌, [], option_map, IfOk, IfErr, IfSome, IsTrue, OnOk, OnErr, IsErrOf};
-ghost use Rattle.outside_core.specs.Faults.{Rose};
+ghost use Rattle.std.specs.Prelude.{◌≡◌, ◌≤◌, ℕ, Some, ◌<◌, IfOk, IfErr, IfSome, IsTrue, OnOk, OnErr};
 ghost use Rattle.outside_core.specs.Kept.{KeepsSink, HasCause, HasSinkCause};
 ghost use Rattle.outside_core.specs.Written.{Appended, AppendedPrefix};
-ghost use Rattle.report_core.specs.Gathered.{text_of};
-ghost use Rattle.tree_defs.specs.Tree.{SameShape};
-ghost use Rattle.tree_defs.specs.Topology.{topology_of, complete};
-ghost use Rattle.target_defs.specs.Target.{IsInRange};
 ghost use Rattle.sched_defs.specs.SendTime.{IsRate};
-ghost use Rattle.embed_defs.specs.Images.{image_map};
-ghost use Rattle.embed_defs.specs.Embedding.{IsEmbedding};
 ghost use Rattle.sched_defs.specs.SourceState.{start};
 ghost use Rattle.sched_defs.specs.Events.{outcomes};
 ghost use Rattle.sched_defs.specs.Packets.{Captured, StaysKnown};
@@ -17,16 +10,18 @@ ghost use Rattle.pcap_core.specs.Bytes.{header_bytes};
 ghost use Rattle.pcapng_defs.specs.NgContents.{in_file};
 ghost use Rattle.sched_packets.specs.Arrivals.{Begins, AreCapturedIn};
 ghost use Rattle.sched_packets.specs.CapturePackets as any;
-ghost use Rattle.sched_packets.specs.SingleLinkType.{resolved_of, policy_of, link_of, given_by, left_of, captures_of, IsReady};
+ghost use Rattle.sched_packets.specs.SingleLinkType.{resolved_of, link_of, left_of, captures_of};
 ghost use Rattle.sched_packets.specs.SingleLinkType.{EachFileOf, one_link_in, link_in};
-ghost use Rattle.sched_run.specs.Frames.{IsSet, Continues};
+ghost use Rattle.sched_run.specs.Frames.{Continues};
 ghost use Rattle.sched_run.specs.Stages.{IsFresh};
 ghost use Rattle.sched_run.specs.Played.{HasMade, HasMadeSome};
-ghost use Rattle.sched_capture.specs.Forwarding.{HoldsNothing};
+ghost use Rattle.sched_capture.specs.Forwarding.{IsUnused};
 ghost use Rattle.sched_embedded.specs.Fabrics.{Leaves, LeavesPart, run_of};
 ghost use Rattle.sched_capture.specs.Answers.{IsRefusal, IsRefusalPart};
 ghost use Rattle.sched_capture.specs.Forwards.{forward_ending, refusal_ending, sent_bytes, forward_events, forward_of, forward_through, forward_answer};
-ghost use Rattle.sched_capture.specs.Placements.{laid_by};
+ghost use Rattle.sched_capture.specs.Placements.{laid_by, IsPlaced, CanCount};
+ghost use Rattle.sched_capture.specs.Starts.{IsAtStart, AreUnread, AreUnreadOfOne};
+ghost use Rattle.sched_capture.specs.Outside.{KeepsOutside};
 
 use crate::capture::{begin, direct_run, refuse};
 use crate::fabric::{Placement, run_through};
@@ -85,8 +80,7 @@ fn begin_packets<'a, S: Shelf, K: Sink>(
     shelf: &mut S,
     sink: &mut K,
 ) -> Result<SingleLinkType<'a, S>, Result<Ending, Stop>>
-    requires none_given { any.given_by arrivals ≡ 0 }
-    requires ready { any.IsReady arrivals (S.begun shelf.old) }
+    requires unread { AreUnread (any.policy_of arrivals) arrivals (S.begun shelf.old) }
 
     ensures begins { IfOk result (λ o. EachFileOf (any.contents_of arrivals.entry
         (S.left shelf.old)) (λ file.
@@ -98,8 +92,8 @@ fn begin_packets<'a, S: Shelf, K: Sink>(
         (λ file.
         link_of o ≡ link_in file)) }
     ensures policy { IfOk result (λ o. resolved_of o ≡ any.resolved_of arrivals.entry) }
-    ensures none_given { IfOk result (λ o. given_by o ≡ 0) }
-    ensures ready { IfOk result (λ o. IsReady o (S.begun shelf.new)) }
+    ensures unread { IfOk result (λ o. AreUnreadOfOne (any.policy_of arrivals.entry) o
+        (S.begun shelf.new)) }
     ensures unwritten { OnOk result (sink.new ≡ sink.old) }
 
     ensures refused { IfErr result (λ answer. IfOk answer (λ e.
@@ -139,8 +133,7 @@ fn begin_one_link<'a, S: Shelf, K: Sink>(
     ensures link { IfOk result (λ o. IfSome (S.content shelf.old capture.now) (λ file. link_of o ≡
         link_in (in_file file))) }
     ensures policy { IfOk result (λ o. resolved_of o ≡ policy.now) }
-    ensures none_given { IfOk result (λ o. given_by o ≡ 0) }
-    ensures ready { IfOk result (λ o. IsReady o (S.begun shelf.new)) }
+    ensures unread { IfOk result (λ o. AreUnreadOfOne policy.now.policy o (S.begun shelf.new)) }
     ensures unwritten { OnOk result (sink.new ≡ sink.old) }
 
     ensures refused { IfErr result (λ answer. IfOk answer (λ e.
@@ -172,18 +165,12 @@ fn forward_over<C: Scheduler + Drop, S: Shelf, K: Sink>(
     sink: &mut K,
     watch: &mut Watching<OrderTap>,
 ) -> Result<ForwardEnding, Stop>
-    requires set { IsSet C.Scheduler ⟦<Forwarding as Recorder>⟧ (λ p. p.policy) run.old }
-    requires nothing { HoldsNothing run.old.recorder }
-    requires none_gathered { run.old.recorder.gathered.unwritten ≡ [] }
+    requires start { IsAtStart C.Scheduler ⟦<Forwarding as Recorder>⟧ (λ p. p.policy)
+        policy.now.policy run.old under.old }
+    requires unused { IsUnused run.old.recorder }
     requires fresh { IsFresh run.old.tally }
-    requires policy { C.policy run.old.scheduler ≡ policy.now.policy }
-    requires packets { policy_of packets.old ≡ policy.now.policy }
-    requires none_given { given_by packets.old ≡ 0 }
-    requires ready { IsReady packets.old (S.begun shelf.old) }
+    requires unread { AreUnreadOfOne policy.now.policy packets.old (S.begun shelf.old) }
     requires rate { IsRate rate }
-    requires stands { C.stands run.old.scheduler under.old (start policy.now.policy) }
-    requires no_pushes { C.pushes run.old.scheduler ≡ 0 }
-    requires no_departures { C.departures run.old.scheduler ≡ 0 }
 
     ensures ending { IfOk result (λ e. IfSome (left_of packets.old (S.left shelf.old)) (λ l.
         (link : ℕ) (captured : Captured) →
@@ -203,10 +190,8 @@ fn forward_over<C: Scheduler + Drop, S: Shelf, K: Sink>(
         HasMadeSome C.Scheduler policy.now.policy (forward_events policy.now.policy rate l) (start policy.now.policy)
         run.old.scheduler under.old run.new.scheduler under.new)) }
     ensures kept_run { Continues C.Scheduler run.old run.new }
-    ensures kept { KeepsSink K.written K.faults sink.old sink.new }
-    ensures later { S.faults shelf.old ≤ S.faults shelf.new }
-    ensures cause { IfErr result (λ stop. HasCause stop S.faults shelf.old shelf.new K.faults
-        sink.old sink.new) }
+    ensures outside { KeepsOutside result S.faults shelf.old shelf.new K.written K.faults sink.old
+        sink.new }
 {
     let ending = run.play_link(under, sink, watch, packets, shelf, rate)?;
     run.recorder.finish(sink)?;
@@ -241,15 +226,9 @@ fn forward_records<S: Shelf, K: Sink, F: Fabric>(
     fabric: &mut F,
 ) -> Result<ForwardEnding, Stop>
     requires rate { IsRate rate }
-    requires range { IsInRange placement.target.arities placement.target.above }
-    requires map_shape { SameShape (topology_of policy.now.policy.tree) placement.map }
-    requires embedding { IsEmbedding (topology_of policy.now.policy.tree)
-        (complete placement.target.arities) (image_map placement.map) }
-    requires pushes { F.pushed fabric.old < 2 ^ 61 }
-    requires pops { F.popped fabric.old < 2 ^ 61 }
-    requires packets { policy_of packets.old ≡ policy.now.policy }
-    requires none_given { given_by packets.old ≡ 0 }
-    requires ready { IsReady packets.old (S.begun shelf.old) }
+    requires placed { IsPlaced policy.now.policy placement }
+    requires counts { CanCount F.Fabric fabric.old }
+    requires unread { AreUnreadOfOne policy.now.policy packets.old (S.begun shelf.old) }
 
     ensures ending { IfOk result (λ e. IfSome (left_of packets.old (S.left shelf.old)) (λ l.
         (link : ℕ) (captured : Captured) →
@@ -266,10 +245,8 @@ fn forward_records<S: Shelf, K: Sink, F: Fabric>(
         Leaves F.Fabric (Some (forward_through policy.now.policy (laid_by placement) rate l)) fabric.old fabric.new)) }
     ensures fabric_part { OnErr result (IfSome (left_of packets.old (S.left shelf.old)) (λ l.
         LeavesPart F.Fabric (Some (forward_through policy.now.policy (laid_by placement) rate l)) fabric.old fabric.new)) }
-    ensures kept { KeepsSink K.written K.faults sink.old sink.new }
-    ensures later { S.faults shelf.old ≤ S.faults shelf.new }
-    ensures cause { IfErr result (λ stop. HasCause stop S.faults shelf.old shelf.new K.faults
-        sink.old sink.new) }
+    ensures outside { KeepsOutside result S.faults shelf.old shelf.new K.written K.faults sink.old
+        sink.new }
 {
     let recorder = Forwarding::new(alloc)?;
     let mut run = run_through(alloc, policy, placement, recorder, fabric)?;
@@ -292,15 +269,9 @@ fn forward_packets<S: Shelf, K: Sink, F: Fabric>(
     fabric: &mut F,
 ) -> Result<ForwardEnding, Stop>
     requires rate { IsRate rate }
-    requires range { IsInRange placement.target.arities placement.target.above }
-    requires map_shape { SameShape (topology_of policy.now.policy.tree) placement.map }
-    requires embedding { IsEmbedding (topology_of policy.now.policy.tree)
-        (complete placement.target.arities) (image_map placement.map) }
-    requires pushes { F.pushed fabric.old < 2 ^ 61 }
-    requires pops { F.popped fabric.old < 2 ^ 61 }
-    requires packets { policy_of packets.old ≡ policy.now.policy }
-    requires none_given { given_by packets.old ≡ 0 }
-    requires ready { IsReady packets.old (S.begun shelf.old) }
+    requires placed { IsPlaced policy.now.policy placement }
+    requires counts { CanCount F.Fabric fabric.old }
+    requires unread { AreUnreadOfOne policy.now.policy packets.old (S.begun shelf.old) }
 
     ensures ending { IfOk result (λ e. IfSome (left_of packets.old (S.left shelf.old)) (λ l.
         (link : ℕ) (captured : Captured) →
@@ -317,10 +288,8 @@ fn forward_packets<S: Shelf, K: Sink, F: Fabric>(
         Leaves F.Fabric (Some (forward_through policy.now.policy (laid_by placement) rate l)) fabric.old fabric.new)) }
     ensures fabric_part { OnErr result (IfSome (left_of packets.old (S.left shelf.old)) (λ l.
         LeavesPart F.Fabric (Some (forward_through policy.now.policy (laid_by placement) rate l)) fabric.old fabric.new)) }
-    ensures kept { KeepsSink K.written K.faults sink.old sink.new }
-    ensures later { S.faults shelf.old ≤ S.faults shelf.new }
-    ensures cause { IfErr result (λ stop. HasCause stop S.faults shelf.old shelf.new K.faults
-        sink.old sink.new) }
+    ensures outside { KeepsOutside result S.faults shelf.old shelf.new K.written K.faults sink.old
+        sink.new }
 {
     write_header(sink, packets.link())?;
     forward_records(alloc, policy, placement, rate, packets, shelf, sink, fabric)
@@ -344,12 +313,8 @@ pub fn forward<S: Shelf, K: Sink, F: Fabric>(
 ) -> Result<ForwardEnding, Stop>
     requires lent { IsTrue (S.lends shelf.old capture.now) }
     requires rate { IsRate rate }
-    requires range { IsInRange placement.target.arities placement.target.above }
-    requires map_shape { SameShape (topology_of policy.now.policy.tree) placement.map }
-    requires embedding { IsEmbedding (topology_of policy.now.policy.tree)
-        (complete placement.target.arities) (image_map placement.map) }
-    requires pushes { F.pushed fabric.old < 2 ^ 61 }
-    requires pops { F.popped fabric.old < 2 ^ 61 }
+    requires placed { IsPlaced policy.now.policy placement }
+    requires counts { CanCount F.Fabric fabric.old }
 
     ensures ending { IfOk result (λ e. IfSome (S.content shelf.old capture.now) (λ file.
         e ≡ (forward_answer policy.now rate file).ending)) }
@@ -363,11 +328,8 @@ pub fn forward<S: Shelf, K: Sink, F: Fabric>(
     ensures fabric_part { OnErr result (IfSome (S.content shelf.old capture.now) (λ file.
         LeavesPart F.Fabric (run_of policy.now.policy (laid_by placement) (forward_answer policy.now rate file).events)
         fabric.old fabric.new)) }
-    ensures sink_cause { IsErrOf result Stop.Sink → Rose (K.faults sink.old) (K.faults sink.new) }
-    ensures source_cause { IsErrOf result Stop.Source → Rose (S.faults shelf.old)
-        (S.faults shelf.new) }
-    ensures kept { KeepsSink K.written K.faults sink.old sink.new }
-    ensures later { S.faults shelf.old ≤ S.faults shelf.new }
+    ensures outside { KeepsOutside result S.faults shelf.old shelf.new K.written K.faults sink.old
+        sink.new }
 {
     match begin_one_link(alloc, policy, capture, shelf, sink) {
         Ok(mut packets) => forward_packets(
@@ -396,9 +358,7 @@ fn forward_own_packets<S: Shelf, K: Sink>(
     sink: &mut K,
 ) -> Result<ForwardEnding, Stop>
     requires rate { IsRate rate }
-    requires packets { policy_of packets.old ≡ policy.now.policy }
-    requires none_given { given_by packets.old ≡ 0 }
-    requires ready { IsReady packets.old (S.begun shelf.old) }
+    requires unread { AreUnreadOfOne policy.now.policy packets.old (S.begun shelf.old) }
 
     ensures ending { IfOk result (λ e. IfSome (left_of packets.old (S.left shelf.old)) (λ l.
         (link : ℕ) (captured : Captured) →
@@ -411,10 +371,8 @@ fn forward_own_packets<S: Shelf, K: Sink>(
         (captured : Captured) →
         captures_of packets.old (S.left shelf.old) captured → AppendedPrefix (K.written sink.old) (K.written sink.new)
         (forward_of policy.now.policy rate (link_of packets.old) captured l).text)) }
-    ensures kept { KeepsSink K.written K.faults sink.old sink.new }
-    ensures later { S.faults shelf.old ≤ S.faults shelf.new }
-    ensures cause { IfErr result (λ stop. HasCause stop S.faults shelf.old shelf.new K.faults
-        sink.old sink.new) }
+    ensures outside { KeepsOutside result S.faults shelf.old shelf.new K.written K.faults sink.old
+        sink.new }
 {
     write_header(sink, packets.link())?;
     let recorder = Forwarding::new(alloc)?;
@@ -444,11 +402,8 @@ pub fn forward_own<S: Shelf, K: Sink>(
         Appended (K.written sink.old) (K.written sink.new) (forward_answer policy.now rate file).text)) }
     ensures part { OnErr result (IfSome (S.content shelf.old capture.now) (λ file.
         AppendedPrefix (K.written sink.old) (K.written sink.new) (forward_answer policy.now rate file).text)) }
-    ensures sink_cause { IsErrOf result Stop.Sink → Rose (K.faults sink.old) (K.faults sink.new) }
-    ensures source_cause { IsErrOf result Stop.Source → Rose (S.faults shelf.old)
-        (S.faults shelf.new) }
-    ensures kept { KeepsSink K.written K.faults sink.old sink.new }
-    ensures later { S.faults shelf.old ≤ S.faults shelf.new }
+    ensures outside { KeepsOutside result S.faults shelf.old shelf.new K.written K.faults sink.old
+        sink.new }
 {
     match begin_one_link(alloc, policy, capture, shelf, sink) {
         Ok(mut packets) => forward_own_packets(alloc, policy, rate, &mut packets, shelf, sink),

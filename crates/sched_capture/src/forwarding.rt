@@ -69,12 +69,11 @@ impl Forwarding {
     ghost use Rattle.outside_core.specs.Written.{Appended};
     ghost use Rattle.report_core.specs.Gathered.{text_of, CutsOff};
     ghost use Rattle.forward_defs.specs.Keeping.{with_bytes, without_bytes};
-    ghost use Rattle.sched_capture.specs.Forwarding.{bytes_kept, HoldsNothing, IsLive};
+    ghost use Rattle.sched_capture.specs.Forwarding.{bytes_kept, IsUnused, IsLive};
 
     /// Returns a recorder that keeps nothing. The error means out of memory.
     pub fn new(alloc: Global) -> Result<Forwarding, AllocError>
-        ensures nothing { IfOk result HoldsNothing }
-        ensures none_gathered { IfOk result (λ f. f.gathered.unwritten ≡ []) }
+        ensures unused { IfOk result IsUnused }
         ensures live { IfOk result IsLive }
     {
         Ok(Forwarding {

@@ -1,19 +1,14 @@
 //! A generated load through the hardware's queues.
-ghost use Rattle.std.specs.Prelude.{◌≡◌, ◌<◌, ◌≤◌, ◌^◌, Some, IfOk, IfErr, OnOk, OnErr};
+ghost use Rattle.std.specs.Prelude.{◌≡◌, ◌<◌, ◌≤◌, Some, IfOk, IfErr, OnOk, OnErr};
 ghost use Rattle.outside_core.specs.Kept.{KeepsSink, HasSinkCause};
-ghost use Rattle.tree_defs.specs.Tree.{SameShape};
-ghost use Rattle.tree_defs.specs.Topology.{topology_of, complete};
-ghost use Rattle.target_defs.specs.Target.{IsInRange};
-ghost use Rattle.embed_defs.specs.Images.{image_map};
-ghost use Rattle.embed_defs.specs.Embedding.{IsEmbedding};
 ghost use Rattle.sched_defs.specs.SourceState.{start};
-ghost use Rattle.sched_run.specs.Frames.{IsSet};
 ghost use Rattle.sched_run.specs.Load.{load_run};
 ghost use Rattle.sched_run.specs.Played.{HasMade, HasMadeSome};
 ghost use Rattle.sched_run.specs.Drawings.{HasLoadClasses, most_load};
 ghost use Rattle.sched_embedded.specs.Fabrics.{Leaves, LeavesPart};
-ghost use Rattle.sched_capture.specs.Placements.{laid_by};
+ghost use Rattle.sched_capture.specs.Placements.{laid_by, IsPlaced, CanCount};
 ghost use Rattle.sched_capture.specs.Loads.{load_counts, load_through};
+ghost use Rattle.sched_capture.specs.Starts.{IsAtStart};
 
 use crate::fabric::{Placement, run_through};
 use fabric_core::Fabric;
@@ -51,14 +46,11 @@ fn count_load<C: Scheduler + Drop, K: Sink>(
     sink: &mut K,
     watch: &mut Watching<Box<dyn Tap>>,
 ) -> Result<LoadCounts, Stop>
-    requires set { IsSet C.Scheduler ⟦<DepartureSum as Recorder>⟧ (λ p. p.policy) run.old }
+    requires start { IsAtStart C.Scheduler ⟦<DepartureSum as Recorder>⟧ (λ p. p.policy)
+        policy.now.policy run.old under.old }
     requires zero { run.old.recorder ≡ 0 }
-    requires policy { C.policy run.old.scheduler ≡ policy.now.policy }
     requires classes { HasLoadClasses policy.now.policy }
     requires short { load.count ≤ most_load }
-    requires stands { C.stands run.old.scheduler under.old (start policy.now.policy) }
-    requires no_pushes { C.pushes run.old.scheduler ≡ 0 }
-    requires no_departures { C.departures run.old.scheduler ≡ 0 }
 
     ensures counts { IfOk result (λ n. n ≡ load_counts policy.now.policy load) }
     ensures state { OnOk result (HasMade C.Scheduler policy.now.policy
@@ -92,12 +84,8 @@ pub fn soak<K: Sink, F: Fabric>(
 ) -> Result<LoadCounts, Stop>
     requires classes { HasLoadClasses policy.now.policy }
     requires short { load.count ≤ most_load }
-    requires range { IsInRange placement.target.arities placement.target.above }
-    requires map_shape { SameShape (topology_of policy.now.policy.tree) placement.map }
-    requires embedding { IsEmbedding (topology_of policy.now.policy.tree)
-        (complete placement.target.arities) (image_map placement.map) }
-    requires pushes { F.pushed fabric.old < 2 ^ 61 }
-    requires pops { F.popped fabric.old < 2 ^ 61 }
+    requires placed { IsPlaced policy.now.policy placement }
+    requires counts { CanCount F.Fabric fabric.old }
 
     ensures counts { IfOk result (λ n. n ≡ load_counts policy.now.policy load) }
     ensures fabric { OnOk result (

@@ -1,39 +1,24 @@
 -- Runs over a capture that may be known to the contract.
-use Rattle.std.proofs.Common.{◌≡◌, ap, ◌∙◌, ℕ, Option, None, Some, List}
+use Rattle.std.proofs.Common.{◌≡◌, ap, ℕ, Option, None, Some, List}
 use Rattle.std.specs.Prelude.{Result, Ok, Err, IfSome, IfOk}
 use Rattle.outside_core.specs.Written.{Appended, AppendedPrefix}
 use Rattle.outside_core.specs.declared.stop.Stop.{Stop}
 use Rattle.outside_core.proofs.WrittenLaws.{appended_nothing, prefix_of_nothing}
 use Rattle.policy_rules.specs.Resolved.{Resolved}
-use Rattle.sched_defs.specs.Pace.{Pace}
 use Rattle.sched_defs.specs.declared.ending.Ending.{Ending}
 use Rattle.sched_defs.specs.declared.rate.LinkRate.{LinkRate}
 use Rattle.sched_run.specs.Steps.{CanEndSo}
 use Rattle.sched_run.specs.declared.pace.Pace as code
-use Rattle.sched_capture.specs.Answers.{paced_answer}
 use Rattle.sched_capture.specs.Forwards.{forward_answer}
 use Rattle.sched_capture.specs.declared.departures.ForwardEnding.{ForwardEnding}
 use Rattle.replay_app.specs.Answer.{Answer, IsTold}
-use Rattle.replay_app.specs.Output.{direct_run}
-use Rattle.replay_app.specs.Scripts.{ending_status}
 use Rattle.replay_app.specs.Statuses.{IsOneOf, pace_statuses, run_status, status_code, forward_status}
 use Rattle.replay_app.specs.declared.status.Status.{Status}
-use Rattle.replay_app.proofs.AnswerLaws.{same_status, pace_ends}
+use Rattle.replay_app.proofs.AnswerLaws.{pace_ends}
 use Rattle.replay_app.proofs.FollowLaws.{exactly_told}
 use Rattle.study.specs.Studied.{departures}
 
 module _ (policy : Resolved) (old new : Option (List ℕ)) where
-  -- ---- a report
-  pub report_told : (pace : Pace) (told : Option (List ℕ)) (e : Ending) → IfSome told (λ file. e ≡ (paced_answer policy pace file).ending)
-      → IfSome told (λ file. Appended old new (paced_answer policy pace file).text) → IfSome told (λ file. IsTold (λ a. a ≡ direct_run policy pace file) (Ok (run_status e)) old new)
-  report_told pace None e ends text = tt
-  report_told pace (Some file) e ends text = exactly_told (direct_run policy pace file) (Ok (run_status e)) old new (same_status e ∙ ap (λ (x : Ending). ending_status x) ends) text tt
-
-  pub report_cut : (pace : Pace) (told : Option (List ℕ)) (stop : Stop) → IfSome told (λ file. AppendedPrefix old new (paced_answer policy pace file).text)
-      → IfSome told (λ file. IsTold (λ a. a ≡ direct_run policy pace file) (Err stop) old new)
-  report_cut pace None stop part = tt
-  report_cut pace (Some file) stop part = exactly_told (direct_run policy pace file) (Err stop) old new tt tt part
-
   -- ---- departures as a capture
   pub departures_told : (rate : LinkRate) (told : Option (List ℕ)) (e : ForwardEnding) → IfSome told (λ file. e ≡ (forward_answer policy rate file).ending)
       → IfSome told (λ file. Appended old new (forward_answer policy rate file).text) → IfSome told (λ file. IsTold (λ a. a ≡ departures policy rate file) (Ok (forward_status e)) old new)

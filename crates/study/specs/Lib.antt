@@ -5,5 +5,4 @@ pub mod Labels
 pub mod SumRuns
 pub mod SizeRuns
 pub mod Studied
-pub mod Placed
 pub mod Rows

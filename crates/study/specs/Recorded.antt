@@ -18,21 +18,6 @@ use Rattle.sched_capture.specs.Answers.{RunAnswer}
 use Rattle.study.specs.declared.recorded.Recorded.{Recorded}
 use Rattle.study.specs.declared.recorded.Recorded.TheVariants.{Whole, Refused}
 
--- the run has made no event, and its scheduler and queues represent the start of the policy
-pub record IsAtStart {C U N W : Type 0} (S : scheduler.Ghosts C U) (R : recorder.Ghosts W) (named : N → Policy) (policy : Policy) (run : Run C N W) (under : U) : Type 0 where
-  pub set : IsSet S R named run
-  pub fresh : IsFresh run.tally
-  pub policy_is : S.policy run.scheduler ≡ policy
-  pub stands : S.stands run.scheduler under (start policy)
-  pub no_pushes : S.pushes run.scheduler ≡ 0
-  pub no_departures : S.departures run.scheduler ≡ 0
-
--- no packet was read yet, and each will get its class from this policy
-pub record AreUnread {S : Type 0} (policy : Policy) (packets : CapturePackets S) (begun : Bool) : Type 0 where
-  pub policy_is : policy_of packets ≡ policy
-  pub none_given : given_by packets ≡ 0
-  pub ready : IsReady packets begun
-
 -- the outcomes of these events from the start are recorded, the first of which has number 1, for
 -- some captured bytes of the packets
 abbrev pub AreRecorded : {W : Type 0} → (Captured → Recording W) → Policy → List Event → W → Option (List ℕ) → W → Option (List ℕ) → Type 0

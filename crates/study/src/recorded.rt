@@ -1,19 +1,16 @@
 //! Runs over a capture whose outcomes are recorded in another form than a report.
-ghost use Rattle.std.specs.Prelude.{◌≡◌, ◌≤◌, ◌<◌, ◌^◌, false, IfOk, IfErr, IfSome, IsTrue, OnOk, OnErr, IsErrOf};
-ghost use Rattle.outside_core.specs.Faults.{Rose};
-ghost use Rattle.outside_core.specs.Kept.{KeepsSink, HasCause};
-ghost use Rattle.tree_defs.specs.Tree.{SameShape};
-ghost use Rattle.tree_defs.specs.Topology.{topology_of, complete};
-ghost use Rattle.target_defs.specs.Target.{IsInRange};
-ghost use Rattle.embed_defs.specs.Images.{image_map};
-ghost use Rattle.embed_defs.specs.Embedding.{IsEmbedding};
+ghost use Rattle.std.specs.Prelude.{◌≡◌, ◌<◌, false, IfOk, IfSome, IsTrue, OnOk, OnErr};
 ghost use Rattle.sched_defs.specs.SourceState.{start};
 ghost use Rattle.sched_defs.specs.Events.{CanMake};
 ghost use Rattle.sched_packets.specs.CapturePackets.{left_of};
 ghost use Rattle.sched_run.specs.Courses.{course_of};
 ghost use Rattle.sched_run.specs.Steps.{pace_of, IsBounded, CanEndSo};
 ghost use Rattle.sched_capture.specs.Answers.{answer_of, paced_answer};
-ghost use Rattle.study.specs.Recorded.{IsAtStart, AreUnread, AreRecorded, AreCutShort, HasRecorded, HasRecordedPart, IfRecorded, ending_in};
+ghost use Rattle.study.specs.Recorded.{AreRecorded, AreCutShort, HasRecorded, HasRecordedPart, IfRecorded, ending_in};
+ghost use Rattle.sched_capture.specs.Placements.{IsPlaced, CanCount};
+ghost use Rattle.sched_capture.specs.Starts.{IsAtStart, AreUnread};
+ghost use Rattle.sched_run.specs.Stages.{IsFresh};
+ghost use Rattle.sched_capture.specs.Outside.{KeepsOutside};
 
 use fabric_core::Fabric;
 use outside_core::{Shelf, Sink, Stop};
@@ -49,6 +46,7 @@ fn record_packets<C: Scheduler + Drop, S: Shelf, K: Sink, W: DepartureRecorder>(
 ) -> Result<Ending, Stop>
     requires start { IsAtStart C.Scheduler W.Recorder (λ p. p.policy) policy.now.policy run.old
         under.old }
+    requires fresh { IsFresh run.old.tally }
     requires endless { (w : W) → W.over w ≡ false }
     requires unread { AreUnread policy.now.policy packets.old (S.begun shelf.old) }
     requires bounded { IsBounded pace }
@@ -69,10 +67,8 @@ fn record_packets<C: Scheduler + Drop, S: Shelf, K: Sink, W: DepartureRecorder>(
         run.old.recorder (K.written sink.old) (K.written sink.new))) }
     ensures ends { IfOk result (CanEndSo pace.entry) }
     ensures live { OnOk result (W.live run.new.recorder) }
-    ensures kept { KeepsSink K.written K.faults sink.old sink.new }
-    ensures later { S.faults shelf.old ≤ S.faults shelf.new }
-    ensures cause { IfErr result (λ stop. HasCause stop S.faults shelf.old shelf.new K.faults
-        sink.old sink.new) }
+    ensures outside { KeepsOutside result S.faults shelf.old shelf.new K.written K.faults sink.old
+        sink.new }
 {
     let mut watch: Watching<OrderTap> = Watching::new(alloc, Named::none(), Vec::new(alloc));
     let played = run.play_events(under, sink, &mut watch, packets, shelf, pace)?;
@@ -93,6 +89,7 @@ fn record_over<C: Scheduler + Drop, S: Shelf, K: Sink, W: DepartureRecorder>(
 ) -> Result<Recorded<W>, Stop>
     requires start { IsAtStart C.Scheduler W.Recorder (λ p. p.policy) policy.now.policy run
         under.old }
+    requires fresh { IsFresh run.tally }
     requires endless { (w : W) → W.over w ≡ false }
     requires lent { IsTrue (S.lends shelf.old task.now.capture.now) }
     requires bounded { IsBounded task.now.pace }
@@ -105,11 +102,8 @@ fn record_over<C: Scheduler + Drop, S: Shelf, K: Sink, W: DepartureRecorder>(
         run.entry.recorder (K.written sink.old) (K.written sink.new))) }
     ensures ends { IfOk result (λ r. CanEndSo task.now.pace (ending_in r)) }
     ensures live { IfOk result (λ r. IfRecorded r W.live) }
-    ensures sink_cause { IsErrOf result Stop.Sink → Rose (K.faults sink.old) (K.faults sink.new) }
-    ensures source_cause { IsErrOf result Stop.Source → Rose (S.faults shelf.old)
-        (S.faults shelf.new) }
-    ensures kept { KeepsSink K.written K.faults sink.old sink.new }
-    ensures later { S.faults shelf.old ≤ S.faults shelf.new }
+    ensures outside { KeepsOutside result S.faults shelf.old shelf.new K.written K.faults sink.old
+        sink.new }
 {
     let mut run = run;
     match begin(alloc, policy, task.capture, shelf, sink) {
@@ -156,11 +150,8 @@ pub fn record_own<S: Shelf, K: Sink, W: DepartureRecorder>(
         recorder (K.written sink.old) (K.written sink.new))) }
     ensures ends { IfOk result (λ r. CanEndSo task.now.pace (ending_in r)) }
     ensures live { IfOk result (λ r. IfRecorded r W.live) }
-    ensures sink_cause { IsErrOf result Stop.Sink → Rose (K.faults sink.old) (K.faults sink.new) }
-    ensures source_cause { IsErrOf result Stop.Source → Rose (S.faults shelf.old)
-        (S.faults shelf.new) }
-    ensures kept { KeepsSink K.written K.faults sink.old sink.new }
-    ensures later { S.faults shelf.old ≤ S.faults shelf.new }
+    ensures outside { KeepsOutside result S.faults shelf.old shelf.new K.written K.faults sink.old
+        sink.new }
 {
     let (run, mut tree) = direct_run(alloc, policy, recorder)?;
     record_over(alloc, policy, run, &mut tree, task, shelf, sink)
@@ -181,12 +172,8 @@ pub fn record_through<S: Shelf, K: Sink, F: Fabric, W: DepartureRecorder>(
     requires endless { (w : W) → W.over w ≡ false }
     requires lent { IsTrue (S.lends shelf.old task.now.capture.now) }
     requires bounded { IsBounded task.now.pace }
-    requires range { IsInRange placement.target.arities placement.target.above }
-    requires map_shape { SameShape (topology_of policy.now.policy.tree) placement.map }
-    requires embedding { IsEmbedding (topology_of policy.now.policy.tree)
-        (complete placement.target.arities) (image_map placement.map) }
-    requires pushes { F.pushed fabric.old < 2 ^ 61 }
-    requires pops { F.popped fabric.old < 2 ^ 61 }
+    requires placed { IsPlaced policy.now.policy placement }
+    requires counts { CanCount F.Fabric fabric.old }
 
     ensures recorded { IfOk result (λ r. IfSome (S.content shelf.old task.now.capture.now) (λ file.
         HasRecorded W.Recorder policy.now.policy (paced_answer policy.now (pace_of task.now.pace) file)
@@ -196,11 +183,8 @@ pub fn record_through<S: Shelf, K: Sink, F: Fabric, W: DepartureRecorder>(
         recorder (K.written sink.old) (K.written sink.new))) }
     ensures ends { IfOk result (λ r. CanEndSo task.now.pace (ending_in r)) }
     ensures live { IfOk result (λ r. IfRecorded r W.live) }
-    ensures sink_cause { IsErrOf result Stop.Sink → Rose (K.faults sink.old) (K.faults sink.new) }
-    ensures source_cause { IsErrOf result Stop.Source → Rose (S.faults shelf.old)
-        (S.faults shelf.new) }
-    ensures kept { KeepsSink K.written K.faults sink.old sink.new }
-    ensures later { S.faults shelf.old ≤ S.faults shelf.new }
+    ensures outside { KeepsOutside result S.faults shelf.old shelf.new K.written K.faults sink.old
+        sink.new }
 {
     let run = run_through(alloc, policy, placement, recorder, fabric)?;
     record_over(alloc, policy, run, fabric, task, shelf, sink)

@@ -1,14 +1,14 @@
 //! Runs through a policy's own tree of queues, or through a fabric that holds it.
-ghost use Rattle.std.specs.Prelude.{◌≡◌, ◌<◌, ◌≤◌, ◌^◌, false, IfOk, IfSome, IsTrue, OnOk, OnErr, IsErrOf};
-ghost use Rattle.outside_core.specs.Faults.{Rose};
-ghost use Rattle.outside_core.specs.Kept.{KeepsSink};
+ghost use Rattle.std.specs.Prelude.{◌≡◌, ◌<◌, false, IfOk, IfSome, IsTrue, OnOk, OnErr};
 ghost use Rattle.outside_core.specs.Written.{Appended, AppendedPrefix};
 ghost use Rattle.sched_defs.specs.SendTime.{IsRate};
 ghost use Rattle.sched_run.specs.Steps.{pace_of, IsBounded, CanEndSo};
 ghost use Rattle.sched_capture.specs.Answers.{paced_answer};
 ghost use Rattle.sched_capture.specs.Forwards.{forward_answer};
 ghost use Rattle.study.specs.Recorded.{HasRecorded, HasRecordedPart, IfRecorded, ending_in};
-ghost use Rattle.study.specs.Placed.{IsPlaced};
+ghost use Rattle.sched_capture.specs.Placements.{IsPlaced, CanCount};
+ghost use Rattle.replay_app.specs.Causes.{HasCauses};
+ghost use Rattle.sched_capture.specs.Outside.{IsReported, KeepsOutside};
 
 use crate::recorded::{Recorded, record_own, record_through};
 use fabric_core::Fabric;
@@ -34,20 +34,14 @@ pub fn write_report<S: Shelf, K: Sink, F: Fabric>(
     requires lent { IsTrue (S.lends shelf.old task.now.capture.now) }
     requires bounded { IsBounded task.now.pace }
     requires placed { IfSome place (IsPlaced policy.now.policy) }
-    requires pushes { F.pushed fabric.old < 2 ^ 61 }
-    requires pops { F.popped fabric.old < 2 ^ 61 }
+    requires counts { CanCount F.Fabric fabric.old }
 
+    ensures report { IfSome (S.content shelf.old task.now.capture.now) (λ file.
+        IsReported result (paced_answer policy.now (pace_of task.now.pace) file)
+        (K.written sink.old) (K.written sink.new)) }
     ensures ends { IfOk result (CanEndSo task.now.pace) }
-    ensures ending { IfOk result (λ e. IfSome (S.content shelf.old task.now.capture.now) (λ file.
-        e ≡ (paced_answer policy.now (pace_of task.now.pace) file).ending)) }
-    ensures text { OnOk result (IfSome (S.content shelf.old task.now.capture.now) (λ file.
-        Appended (K.written sink.old) (K.written sink.new) (paced_answer policy.now (pace_of task.now.pace) file).text)) }
-    ensures part { OnErr result (IfSome (S.content shelf.old task.now.capture.now) (λ file.
-        AppendedPrefix (K.written sink.old) (K.written sink.new) (paced_answer policy.now (pace_of task.now.pace) file).text)) }
-    ensures shelf_cause { IsErrOf result Stop.Source → Rose (S.faults shelf.old)
-        (S.faults shelf.new) }
-    ensures sink_cause { IsErrOf result Stop.Sink → Rose (K.faults sink.old) (K.faults sink.new) }
-    ensures sink_later { K.faults sink.old ≤ K.faults sink.new }
+    ensures causes { HasCauses result (S.faults shelf.old) (S.faults shelf.new) (K.faults sink.old)
+        (K.faults sink.new) }
 {
     match place {
         None => direct(alloc, policy, task, shelf, sink),
@@ -79,8 +73,7 @@ pub fn write_departures<S: Shelf, K: Sink, F: Fabric>(
     requires lent { IsTrue (S.lends shelf.old capture.now) }
     requires rate { IsRate rate }
     requires placed { IfSome place (IsPlaced policy.now.policy) }
-    requires pushes { F.pushed fabric.old < 2 ^ 61 }
-    requires pops { F.popped fabric.old < 2 ^ 61 }
+    requires counts { CanCount F.Fabric fabric.old }
 
     ensures ending { IfOk result (λ e. IfSome (S.content shelf.old capture.now) (λ file.
         e ≡ (forward_answer policy.now rate file).ending)) }
@@ -88,10 +81,8 @@ pub fn write_departures<S: Shelf, K: Sink, F: Fabric>(
         Appended (K.written sink.old) (K.written sink.new) (forward_answer policy.now rate file).text)) }
     ensures part { OnErr result (IfSome (S.content shelf.old capture.now) (λ file.
         AppendedPrefix (K.written sink.old) (K.written sink.new) (forward_answer policy.now rate file).text)) }
-    ensures shelf_cause { IsErrOf result Stop.Source → Rose (S.faults shelf.old)
-        (S.faults shelf.new) }
-    ensures sink_cause { IsErrOf result Stop.Sink → Rose (K.faults sink.old) (K.faults sink.new) }
-    ensures sink_later { K.faults sink.old ≤ K.faults sink.new }
+    ensures causes { HasCauses result (S.faults shelf.old) (S.faults shelf.new) (K.faults sink.old)
+        (K.faults sink.new) }
 {
     match place {
         None => forward_own(alloc, policy, capture, rate, shelf, sink),
@@ -117,8 +108,7 @@ pub fn record<S: Shelf, K: Sink, F: Fabric, W: DepartureRecorder>(
     requires lent { IsTrue (S.lends shelf.old task.now.capture.now) }
     requires bounded { IsBounded task.now.pace }
     requires placed { IfSome place (IsPlaced policy.now.policy) }
-    requires pushes { F.pushed fabric.old < 2 ^ 61 }
-    requires pops { F.popped fabric.old < 2 ^ 61 }
+    requires counts { CanCount F.Fabric fabric.old }
 
     ensures recorded { IfOk result (λ r. IfSome (S.content shelf.old task.now.capture.now) (λ file.
         HasRecorded W.Recorder policy.now.policy (paced_answer policy.now (pace_of task.now.pace) file)
@@ -128,10 +118,8 @@ pub fn record<S: Shelf, K: Sink, F: Fabric, W: DepartureRecorder>(
         recorder (K.written sink.old) (K.written sink.new))) }
     ensures ends { IfOk result (λ r. CanEndSo task.now.pace (ending_in r)) }
     ensures live { IfOk result (λ r. IfRecorded r W.live) }
-    ensures shelf_cause { IsErrOf result Stop.Source → Rose (S.faults shelf.old)
-        (S.faults shelf.new) }
-    ensures sink_cause { IsErrOf result Stop.Sink → Rose (K.faults sink.old) (K.faults sink.new) }
-    ensures kept { KeepsSink K.written K.faults sink.old sink.new }
+    ensures outside { KeepsOutside result S.faults shelf.old shelf.new K.written K.faults sink.old
+        sink.new }
 {
     match place {
         None => record_own(alloc, policy, task, recorder, shelf, sink),

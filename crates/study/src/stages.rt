@@ -1,16 +1,16 @@
 //! The inputs of a study, each read only when it is needed.
-ghost use Rattle.std.specs.Prelude.{◌≡◌, ◌<◌, ◌≤◌, ◌^◌, ◌∷◌, [], IfOk, IfSome, IsErrOf};
-ghost use Rattle.outside_core.specs.Faults.{Rose};
+ghost use Rattle.std.specs.Prelude.{◌<◌, ◌∷◌, [], IfOk, IfSome};
 ghost use Rattle.tree_defs.specs.Topology.{topology_of};
 ghost use Rattle.target_defs.specs.Target.{IsInRange};
 ghost use Rattle.replay_app.specs.Policies.{judged_of};
 ghost use Rattle.replay_app.specs.Statuses.{IsOneOf, run_statuses, status_code};
 ghost use Rattle.replay_app.specs.Words.{AreLent, WhereTold};
 ghost use Rattle.study.specs.Files.{target_of, with_target, drive_files, study_files, HasLinkRate, drive_statuses, target_statuses, study_statuses, IsSummedUp, IsSum, view_statuses};
-ghost use Rattle.study.specs.Placed.{IsPlaced};
 ghost use Rattle.study.specs.SumRuns.{IsToldOr, HasNames};
 ghost use Rattle.study.specs.SizeRuns.{laid_of};
 ghost use Rattle.study.specs.Studied.{AlongSteps, IsDriven, FitsIn, ForTargetText, InTarget, IsStudied};
+ghost use Rattle.sched_capture.specs.Placements.{IsPlaced, CanCount};
+ghost use Rattle.replay_app.specs.Causes.{HasCauses};
 
 use crate::parts::{Drive, Study};
 use crate::views::{view_departures, write_view};
@@ -38,8 +38,7 @@ fn study_script<S: Shelf, K: Sink, F: Fabric>(
 ) -> Result<Status, Stop>
     requires lent { AreLent (S.lends shelf.old) (study.now.capture.now ∷ name.now ∷ []) }
     requires placed { IfSome place (IsPlaced judged.now.policy.policy) }
-    requires pushes { F.pushed fabric.old < 2 ^ 61 }
-    requires pops { F.popped fabric.old < 2 ^ 61 }
+    requires counts { CanCount F.Fabric fabric.old }
 
     ensures answer { HasNames (judged_of judged.now) → WhereTold (S.content shelf.old)
         (study.now.capture.now ∷ name.now ∷ []) (λ contents.
@@ -47,10 +46,8 @@ fn study_script<S: Shelf, K: Sink, F: Fabric>(
         (K.written sink.old) (K.written sink.new)) }
     ensures statuses { IfOk result (λ s. IsOneOf (view_statuses study.now.view run_statuses)
         (status_code s)) }
-    ensures shelf_cause { IsErrOf result Stop.Source → Rose (S.faults shelf.old)
-        (S.faults shelf.new) }
-    ensures sink_cause { IsErrOf result Stop.Sink → Rose (K.faults sink.old) (K.faults sink.new) }
-    ensures sink_later { K.faults sink.old ≤ K.faults sink.new }
+    ensures causes { HasCauses result (S.faults shelf.old) (S.faults shelf.new) (K.faults sink.old)
+        (K.faults sink.new) }
 {
     match read_script(alloc, shelf, name)? {
         Read::Accepted(script) => {
@@ -77,8 +74,7 @@ fn study_driven<S: Shelf, K: Sink, F: Fabric>(
         study.now.drive) }
     requires rate { HasLinkRate study.now.drive }
     requires placed { IfSome place (IsPlaced judged.now.policy.policy) }
-    requires pushes { F.pushed fabric.old < 2 ^ 61 }
-    requires pops { F.popped fabric.old < 2 ^ 61 }
+    requires counts { CanCount F.Fabric fabric.old }
 
     ensures answer { HasNames (judged_of judged.now) → WhereTold (S.content shelf.old)
         (study.now.capture.now ∷ drive_files study.now.drive) (λ contents.
@@ -86,10 +82,8 @@ fn study_driven<S: Shelf, K: Sink, F: Fabric>(
         (K.written sink.old) (K.written sink.new)) }
     ensures statuses { IfOk result (λ s. IsOneOf (drive_statuses study.now.drive study.now.view)
         (status_code s)) }
-    ensures shelf_cause { IsErrOf result Stop.Source → Rose (S.faults shelf.old)
-        (S.faults shelf.new) }
-    ensures sink_cause { IsErrOf result Stop.Sink → Rose (K.faults sink.old) (K.faults sink.new) }
-    ensures sink_later { K.faults sink.old ≤ K.faults sink.new }
+    ensures causes { HasCauses result (S.faults shelf.old) (S.faults shelf.new) (K.faults sink.old)
+        (K.faults sink.new) }
 {
     match study.drive {
         Drive::Script(script) => {
@@ -128,8 +122,7 @@ fn study_placed<S: Shelf, K: Sink, F: Fabric>(
         study.now.drive) }
     requires rate { HasLinkRate study.now.drive }
     requires range { IsInRange target.arities target.above }
-    requires pushes { F.pushed fabric.old < 2 ^ 61 }
-    requires pops { F.popped fabric.old < 2 ^ 61 }
+    requires counts { CanCount F.Fabric fabric.old }
 
     ensures answer { HasNames (judged_of judged.now) → WhereTold (S.content shelf.old)
         (study.now.capture.now ∷ drive_files study.now.drive) (λ contents.
@@ -138,10 +131,8 @@ fn study_placed<S: Shelf, K: Sink, F: Fabric>(
         (K.written sink.old) (K.written sink.new)) }
     ensures statuses { IfOk result (λ s. IsOneOf (5 ∷ drive_statuses study.now.drive study.now.view)
         (status_code s)) }
-    ensures shelf_cause { IsErrOf result Stop.Source → Rose (S.faults shelf.old)
-        (S.faults shelf.new) }
-    ensures sink_cause { IsErrOf result Stop.Sink → Rose (K.faults sink.old) (K.faults sink.new) }
-    ensures sink_later { K.faults sink.old ≤ K.faults sink.new }
+    ensures causes { HasCauses result (S.faults shelf.old) (S.faults shelf.new) (K.faults sink.old)
+        (K.faults sink.new) }
 {
     match embed(alloc, judged.policy.topo(), &target) {
         Ok(map) => {
@@ -166,8 +157,7 @@ fn study_target<S: Shelf, K: Sink, F: Fabric>(
     requires lent { AreLent (S.lends shelf.old) (name.now ∷ study.now.capture.now ∷ drive_files
         study.now.drive) }
     requires rate { HasLinkRate study.now.drive }
-    requires pushes { F.pushed fabric.old < 2 ^ 61 }
-    requires pops { F.popped fabric.old < 2 ^ 61 }
+    requires counts { CanCount F.Fabric fabric.old }
 
     ensures answer { HasNames (judged_of judged.now) → WhereTold (S.content shelf.old)
         (name.now ∷ study.now.capture.now ∷ drive_files study.now.drive) (λ contents.
@@ -176,10 +166,8 @@ fn study_target<S: Shelf, K: Sink, F: Fabric>(
         (K.written sink.old) (K.written sink.new)) }
     ensures statuses { IfOk result (λ s. IsOneOf
         (4 ∷ 5 ∷ drive_statuses study.now.drive study.now.view) (status_code s)) }
-    ensures shelf_cause { IsErrOf result Stop.Source → Rose (S.faults shelf.old)
-        (S.faults shelf.new) }
-    ensures sink_cause { IsErrOf result Stop.Sink → Rose (K.faults sink.old) (K.faults sink.new) }
-    ensures sink_later { K.faults sink.old ≤ K.faults sink.new }
+    ensures causes { HasCauses result (S.faults shelf.old) (S.faults shelf.new) (K.faults sink.old)
+        (K.faults sink.new) }
 {
     match read_target_file(alloc, shelf, name)? {
         Read::Accepted(target) => study_placed(alloc, judged, target, study, shelf, sink, fabric),
@@ -199,8 +187,7 @@ fn study_policy<S: Shelf, K: Sink, F: Fabric>(
     requires lent { AreLent (S.lends shelf.old) (with_target (target_of study.now)
         (study.now.capture.now ∷ drive_files study.now.drive)) }
     requires rate { HasLinkRate study.now.drive }
-    requires pushes { F.pushed fabric.old < 2 ^ 61 }
-    requires pops { F.popped fabric.old < 2 ^ 61 }
+    requires counts { CanCount F.Fabric fabric.old }
 
     ensures answer { HasNames (judged_of judged.now) → WhereTold (S.content shelf.old)
         (with_target (target_of study.now) (study.now.capture.now ∷ drive_files study.now.drive))
@@ -210,10 +197,8 @@ fn study_policy<S: Shelf, K: Sink, F: Fabric>(
         (K.written sink.old) (K.written sink.new)) }
     ensures statuses { IfOk result (λ s. IsOneOf (target_statuses (target_of study.now)
         (drive_statuses study.now.drive study.now.view)) (status_code s)) }
-    ensures shelf_cause { IsErrOf result Stop.Source → Rose (S.faults shelf.old)
-        (S.faults shelf.new) }
-    ensures sink_cause { IsErrOf result Stop.Sink → Rose (K.faults sink.old) (K.faults sink.new) }
-    ensures sink_later { K.faults sink.old ≤ K.faults sink.new }
+    ensures causes { HasCauses result (S.faults shelf.old) (S.faults shelf.new) (K.faults sink.old)
+        (K.faults sink.new) }
 {
     match study.target {
         None => study_driven(alloc, judged, None, study, shelf, sink, fabric),
@@ -231,16 +216,13 @@ pub fn study_inputs<S: Shelf, K: Sink, F: Fabric>(
 ) -> Result<Status, Stop>
     requires lent { AreLent (S.lends shelf.old) (study_files study.now) }
     requires rate { HasLinkRate study.now.drive }
-    requires pushes { F.pushed fabric.old < 2 ^ 61 }
-    requires pops { F.popped fabric.old < 2 ^ 61 }
+    requires counts { CanCount F.Fabric fabric.old }
 
     ensures answer { WhereTold (S.content shelf.old) (study_files study.now) (λ contents.
         IsToldOr (IsSummedUp study.now.drive study.now.view) (IsStudied study.now contents) result (K.written sink.old) (K.written sink.new)) }
     ensures statuses { IfOk result (λ s. IsOneOf (study_statuses study.now) (status_code s)) }
-    ensures shelf_cause { IsErrOf result Stop.Source → Rose (S.faults shelf.old)
-        (S.faults shelf.new) }
-    ensures sink_cause { IsErrOf result Stop.Sink → Rose (K.faults sink.old) (K.faults sink.new) }
-    ensures sink_later { K.faults sink.old ≤ K.faults sink.new }
+    ensures causes { HasCauses result (S.faults shelf.old) (S.faults shelf.new) (K.faults sink.old)
+        (K.faults sink.new) }
 {
     match read_policy(alloc, shelf, study.policy)? {
         Read::Accepted(judged) => study_policy(alloc, &judged, study, shelf, sink, fabric),

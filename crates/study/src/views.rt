@@ -1,5 +1,5 @@
 //! Runs whose outcomes are written in the form that a view names.
-ghost use Rattle.std.specs.Prelude.{◌≡◌, ◌<◌, ◌≤◌, ◌^◌, ◌∷◌, IfOk, IfSome, IsTrue, OnOk, OnErr, IsErrOf};
+ghost use Rattle.std.specs.Prelude.{◌≡◌, ◌<◌, ◌∷◌, IfOk, IfSome, IsTrue, OnOk, OnErr, IsErrOf};
 ghost use Rattle.outside_core.specs.Faults.{Rose};
 ghost use Rattle.outside_core.specs.Kept.{KeepsSink};
 ghost use Rattle.outside_core.specs.Written.{Appended};
@@ -15,11 +15,12 @@ ghost use Rattle.replay_app.specs.Output.{direct_run};
 ghost use Rattle.replay_app.specs.Policies.{judged_of};
 ghost use Rattle.replay_app.specs.Statuses.{IsOneOf, pace_statuses, forward_statuses, run_status, status_code};
 ghost use Rattle.study.specs.JsonRuns.{rate_in, json_run};
-ghost use Rattle.study.specs.Placed.{IsPlaced};
 ghost use Rattle.study.specs.Files.{IsSum, view_statuses};
 ghost use Rattle.study.specs.SumRuns.{IsSummed, IsToldOr, HasNames, render};
 ghost use Rattle.study.specs.SizeRuns.{IsSized, IsSizedIn, laid_of, shown};
 ghost use Rattle.study.specs.Studied.{IsViewed, departures};
+ghost use Rattle.sched_capture.specs.Placements.{IsPlaced, CanCount};
+ghost use Rattle.replay_app.specs.Causes.{HasCauses};
 
 use crate::labels::{leaf_table, leaves_of};
 use crate::parts::{Measure, View};
@@ -52,17 +53,14 @@ fn view_report<S: Shelf, K: Sink, F: Fabric>(
     requires lent { IsTrue (S.lends shelf.old task.now.capture.now) }
     requires bounded { IsBounded task.now.pace }
     requires placed { IfSome place (IsPlaced policy.now.policy) }
-    requires pushes { F.pushed fabric.old < 2 ^ 61 }
-    requires pops { F.popped fabric.old < 2 ^ 61 }
+    requires counts { CanCount F.Fabric fabric.old }
 
     ensures answer { IfSome (S.content shelf.old task.now.capture.now) (λ file.
         IsTold (λ a. a ≡ direct_run policy.now (pace_of task.now.pace) file) result
         (K.written sink.old) (K.written sink.new)) }
     ensures statuses { IfOk result (λ s. IsOneOf (pace_statuses task.now.pace) (status_code s)) }
-    ensures shelf_cause { IsErrOf result Stop.Source → Rose (S.faults shelf.old)
-        (S.faults shelf.new) }
-    ensures sink_cause { IsErrOf result Stop.Sink → Rose (K.faults sink.old) (K.faults sink.new) }
-    ensures sink_later { K.faults sink.old ≤ K.faults sink.new }
+    ensures causes { HasCauses result (S.faults shelf.old) (S.faults shelf.new) (K.faults sink.old)
+        (K.faults sink.new) }
 {
     let ending = write_report(alloc, policy, place, task, shelf, sink, fabric)?;
     Ok(Status::of_run(ending))
@@ -111,17 +109,14 @@ fn view_json<S: Shelf, K: Sink, F: Fabric>(
     requires lent { IsTrue (S.lends shelf.old task.now.capture.now) }
     requires bounded { IsBounded task.now.pace }
     requires placed { IfSome place (IsPlaced policy.now.policy) }
-    requires pushes { F.pushed fabric.old < 2 ^ 61 }
-    requires pops { F.popped fabric.old < 2 ^ 61 }
+    requires counts { CanCount F.Fabric fabric.old }
 
     ensures answer { IfSome (S.content shelf.old task.now.capture.now) (λ file.
         IsTold (λ a. a ≡ json_run policy.now (pace_of task.now.pace) file) result
         (K.written sink.old) (K.written sink.new)) }
     ensures statuses { IfOk result (λ s. IsOneOf (pace_statuses task.now.pace) (status_code s)) }
-    ensures shelf_cause { IsErrOf result Stop.Source → Rose (S.faults shelf.old)
-        (S.faults shelf.new) }
-    ensures sink_cause { IsErrOf result Stop.Sink → Rose (K.faults sink.old) (K.faults sink.new) }
-    ensures sink_later { K.faults sink.old ≤ K.faults sink.new }
+    ensures causes { HasCauses result (S.faults shelf.old) (S.faults shelf.new) (K.faults sink.old)
+        (K.faults sink.new) }
 {
     let recorder = JsonReport::new(alloc, rate_of(task.pace))?;
     let recorded = record(alloc, policy, place, task, recorder, shelf, sink, fabric)?;
@@ -145,8 +140,7 @@ fn view_sums<S: Shelf, K: Sink, F: Fabric>(
     requires lent { IsTrue (S.lends shelf.old task.now.capture.now) }
     requires bounded { IsBounded task.now.pace }
     requires placed { IfSome place (IsPlaced judged.now.policy.policy) }
-    requires pushes { F.pushed fabric.old < 2 ^ 61 }
-    requires pops { F.popped fabric.old < 2 ^ 61 }
+    requires counts { CanCount F.Fabric fabric.old }
 
     ensures answer { HasNames (judged_of judged.now) → IfSome (S.content shelf.old
         task.now.capture.now) (λ file.
@@ -155,10 +149,8 @@ fn view_sums<S: Shelf, K: Sink, F: Fabric>(
         (K.written sink.old) (K.written sink.new)) }
     ensures statuses { IfOk result (λ s. IsOneOf (14 ∷ pace_statuses task.now.pace)
         (status_code s)) }
-    ensures shelf_cause { IsErrOf result Stop.Source → Rose (S.faults shelf.old)
-        (S.faults shelf.new) }
-    ensures sink_cause { IsErrOf result Stop.Sink → Rose (K.faults sink.old) (K.faults sink.new) }
-    ensures sink_later { K.faults sink.old ≤ K.faults sink.new }
+    ensures causes { HasCauses result (S.faults shelf.old) (S.faults shelf.new) (K.faults sink.old)
+        (K.faults sink.new) }
 {
     let policy = &judged.policy;
     let leaves = leaves_of(alloc, policy)?;
@@ -211,10 +203,8 @@ fn view_sizes<S: Shelf, K: Sink>(
         (K.written sink.old) (K.written sink.new)) }
     ensures statuses { IfOk result (λ s. IsOneOf (1 ∷ pace_statuses task.now.pace)
         (status_code s)) }
-    ensures shelf_cause { IsErrOf result Stop.Source → Rose (S.faults shelf.old)
-        (S.faults shelf.new) }
-    ensures sink_cause { IsErrOf result Stop.Sink → Rose (K.faults sink.old) (K.faults sink.new) }
-    ensures sink_later { K.faults sink.old ≤ K.faults sink.new }
+    ensures causes { HasCauses result (S.faults shelf.old) (S.faults shelf.new) (K.faults sink.old)
+        (K.faults sink.new) }
 {
     let sizing = Sizing::new(
         alloc,
@@ -250,18 +240,15 @@ fn view_sizes_in<S: Shelf, K: Sink, F: Fabric>(
     requires lent { IsTrue (S.lends shelf.old task.now.capture.now) }
     requires bounded { IsBounded task.now.pace }
     requires placed { IfSome place (IsPlaced policy.now.policy) }
-    requires pushes { F.pushed fabric.old < 2 ^ 61 }
-    requires pops { F.popped fabric.old < 2 ^ 61 }
+    requires counts { CanCount F.Fabric fabric.old }
 
     ensures answer { IfSome (S.content shelf.old task.now.capture.now) (λ file.
         IsTold (IsSizedIn (shown form) measure.now (laid_of place) policy.now
         (pace_of task.now.pace) file) result (K.written sink.old) (K.written sink.new)) }
     ensures statuses { IfOk result (λ s. IsOneOf (1 ∷ pace_statuses task.now.pace)
         (status_code s)) }
-    ensures shelf_cause { IsErrOf result Stop.Source → Rose (S.faults shelf.old)
-        (S.faults shelf.new) }
-    ensures sink_cause { IsErrOf result Stop.Sink → Rose (K.faults sink.old) (K.faults sink.new) }
-    ensures sink_later { K.faults sink.old ≤ K.faults sink.new }
+    ensures causes { HasCauses result (S.faults shelf.old) (S.faults shelf.new) (K.faults sink.old)
+        (K.faults sink.new) }
 {
     match place {
         None => view_report(alloc, policy, None, task, shelf, sink, fabric),
@@ -285,8 +272,7 @@ pub fn write_view<S: Shelf, K: Sink, F: Fabric>(
     requires lent { IsTrue (S.lends shelf.old task.now.capture.now) }
     requires bounded { IsBounded task.now.pace }
     requires placed { IfSome place (IsPlaced judged.now.policy.policy) }
-    requires pushes { F.pushed fabric.old < 2 ^ 61 }
-    requires pops { F.popped fabric.old < 2 ^ 61 }
+    requires counts { CanCount F.Fabric fabric.old }
 
     ensures answer { HasNames (judged_of judged.now) → IfSome (S.content shelf.old
         task.now.capture.now) (λ file.
@@ -294,10 +280,8 @@ pub fn write_view<S: Shelf, K: Sink, F: Fabric>(
         (K.written sink.old) (K.written sink.new)) }
     ensures statuses { IfOk result (λ s. IsOneOf (view_statuses view (pace_statuses task.now.pace))
         (status_code s)) }
-    ensures shelf_cause { IsErrOf result Stop.Source → Rose (S.faults shelf.old)
-        (S.faults shelf.new) }
-    ensures sink_cause { IsErrOf result Stop.Sink → Rose (K.faults sink.old) (K.faults sink.new) }
-    ensures sink_later { K.faults sink.old ≤ K.faults sink.new }
+    ensures causes { HasCauses result (S.faults shelf.old) (S.faults shelf.new) (K.faults sink.old)
+        (K.faults sink.new) }
 {
     match view {
         View::Report => view_report(alloc, &judged.policy, place, task, shelf, sink, fabric),
@@ -343,16 +327,13 @@ pub fn view_departures<S: Shelf, K: Sink, F: Fabric>(
     requires lent { IsTrue (S.lends shelf.old capture.now) }
     requires rate { IsRate rate }
     requires placed { IfSome place (IsPlaced policy.now.policy) }
-    requires pushes { F.pushed fabric.old < 2 ^ 61 }
-    requires pops { F.popped fabric.old < 2 ^ 61 }
+    requires counts { CanCount F.Fabric fabric.old }
 
     ensures answer { IfSome (S.content shelf.old capture.now) (λ file.
         IsTold (λ a. a ≡ departures policy.now rate file) result (K.written sink.old) (K.written sink.new)) }
     ensures statuses { IfOk result (λ s. IsOneOf forward_statuses (status_code s)) }
-    ensures shelf_cause { IsErrOf result Stop.Source → Rose (S.faults shelf.old)
-        (S.faults shelf.new) }
-    ensures sink_cause { IsErrOf result Stop.Sink → Rose (K.faults sink.old) (K.faults sink.new) }
-    ensures sink_later { K.faults sink.old ≤ K.faults sink.new }
+    ensures causes { HasCauses result (S.faults shelf.old) (S.faults shelf.new) (K.faults sink.old)
+        (K.faults sink.new) }
 {
     let ending = write_departures(alloc, policy, place, capture, rate, shelf, sink, fabric)?;
     Ok(Status::of_forward(ending))

@@ -1,8 +1,6 @@
 use Rattle.std.proofs.Common.{◌∙◌}
 use Rattle.report_core.specs.declared.fault.FaultKind.TheVariants as kind
-use Rattle.replay_app.specs.Output.{direct_run}
-use Rattle.replay_app.specs.Scripts.{script_pace}
-use Rattle.replay_app.proofs.FollowLaws.{accepted_told, refused_told, exactly_told}
+use Rattle.replay_app.proofs.FollowLaws.{accepted_told, refused_told}
 use Rattle.replay_app.proofs.Inputs.{scripts_are_one}
 use Rattle.replay_app.proofs.direct.direct_script.Goals as goal
 
@@ -15,7 +13,7 @@ returns-in-Accepted-clause-answer g c = λ contents told.
     let is = rw c.in-Accepted.is at (rw (told.1.0) at c.in_ok-script.ensures.read) in
     let same = c.in_ok-script.ensures.kept.files.contents f.capture.now ∙ told.0 in
     accepted_told kind.Script _ _ _ (scripts_are_one (contents c.args.files.now.script.now)) c.direct_capture.result _ _ c.in-Accepted.script is
-    (exactly_told (direct_run c.args.policy.now (script_pace c.in-Accepted.script) (contents f.capture.now)) c.direct_capture.result _ _ (rw (c.steps.ensures) at (rw same at c.direct_capture.ensures.status)) (rw (c.steps.ensures) at (rw same at c.direct_capture.ensures.text)) (rw (c.steps.ensures) at (rw same at c.direct_capture.ensures.part)))
+    (rw (c.steps.ensures) at (rw same at c.direct_capture.ensures.answer))
 
 pub returns-in-Refused-clause-answer : goal.returns-in-Refused-clause-answer
 returns-in-Refused-clause-answer g c = λ contents told.

@@ -10,7 +10,7 @@ pub returns-in_err-ending-clause-answer : goal.returns-in_err-ending-clause-answ
 returns-in_err-ending-clause-answer g c =
     let p = err_from_is_err_and c.from_residual.result c.from_residual.ensures.1 in
     let before : Sight = sight_of g.T.Tap.kind_of g.T.Tap.state_of c.args.watch.now in
-    rw (p.1) (report_cut c.args.policy.now (laid_by c.args.placement) (pace_of c.args.task.now.pace) before _ _ _ _ c.in_err-ending.ensures.part)
+    rw (p.1) (report_cut c.args.policy.now (laid_by c.args.placement) (pace_of c.args.task.now.pace) before _ _ _ _ _ c.in_err-ending.ensures.report)
 
 pub returns-in_err-ending-clause-left : goal.returns-in_err-ending-clause-left
 returns-in_err-ending-clause-left g c =
@@ -24,7 +24,7 @@ returns-in_err-write_lines-clause-answer g c =
     let before : Sight = sight_of g.T.Tap.kind_of g.T.Tap.state_of c.args.watch.now in
     let e = c.in_ok-ending.ensures in
     rw (p.1) (lines_cut c.args.policy.now (laid_by c.args.placement) (pace_of c.args.task.now.pace) before _ _ _ _ _ _ _
-    e.ending e.watched e.text c.in_err-write_lines.ensures.part)
+    e.report e.watched c.in_err-write_lines.ensures.part)
 
 pub returns-in_err-write_lines-clause-left : goal.returns-in_err-write_lines-clause-left
 returns-in_err-write_lines-clause-left g c =
@@ -37,7 +37,7 @@ returns-clause-answer g c =
     let before : Sight = sight_of g.T.Tap.kind_of g.T.Tap.state_of c.args.watch.now in
     let e = c.in_ok-ending.ensures in
     rw (c.of_run.ensures) (whole_told c.args.policy.now (laid_by c.args.placement) (pace_of c.args.task.now.pace) before _ _ _ _ _ _
-    e.ending e.watched e.text c.in_ok-write_lines.ensures.text)
+    e.report e.watched c.in_ok-write_lines.ensures.text)
 
 pub returns-clause-left : goal.returns-clause-left
 returns-clause-left g c =

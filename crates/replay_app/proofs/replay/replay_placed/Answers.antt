@@ -11,11 +11,12 @@ use Rattle.replay_app.proofs.Inputs.{rooms_are_one, placement}
 use Rattle.replay_app.proofs.AnswerLaws.{paced_no_refusal}
 use Rattle.replay_app.proofs.replay.replay_placed.Goals as goal
 
-pub replay_paced-requires-clause-map_shape : goal.replay_paced-requires-clause-map_shape
-replay_paced-requires-clause-map_shape g c = subst (λ (s : Topology). SameShape s c.in-Ok.map) c.topo.ensures.topology c.in-Ok.ensures.shape
-
-pub replay_paced-requires-clause-embedding : goal.replay_paced-requires-clause-embedding
-replay_paced-requires-clause-embedding g c = subst (λ (s : Topology). IsEmbedding s (complete c.args.target.arities) (image_map c.in-Ok.map)) c.topo.ensures.topology c.in-Ok.ensures.embedding
+pub replay_paced-requires-clause-placed : goal.replay_paced-requires-clause-placed
+replay_paced-requires-clause-placed g c = record {
+  range = c.requires.range;
+  map_shape = subst (λ (s : Topology). SameShape s c.in-Ok.map) c.topo.ensures.topology c.in-Ok.ensures.shape;
+  embedding = subst (λ (s : Topology). IsEmbedding s (complete c.args.target.arities) (image_map c.in-Ok.map)) c.topo.ensures.topology c.in-Ok.ensures.embedding;
+}
 
 pub returns-in-Ok-clause-answer : goal.returns-in-Ok-clause-answer
 returns-in-Ok-clause-answer g c = λ contents told.

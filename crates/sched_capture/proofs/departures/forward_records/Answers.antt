@@ -1,4 +1,4 @@
-use Rattle.std.proofs.Common.{Some, inr}
+use Rattle.std.proofs.Common.{Some, inr, arith, rules}
 use Rattle.std.proofs.lemmas.Option.{IfSome_then}
 use Rattle.std.proofs.lemmas.Result.{on_ok_weaker, on_err_weaker}
 use Rattle.outside_core.proofs.KeptLaws.{sink-same}
@@ -23,7 +23,7 @@ returns-clause-fabric g c =
     let laid : Laid = record { images = c.args.placement.map; arities = c.args.placement.target.arities } in
     let n = c.in_ok-run.ensures in
     on_ok_weaker c.forward_over.result (λ all. IfSome_then (left_of c.args.packets.now (g.S.Shelf.left c.args.shelf.now)) all
-    (λ l made. holds_after g.F.Fabric c.args.policy.now.policy laid c.in_ok-run.run'.scheduler c.args.fabric.now c.run_through.new.fabric n.origin n.pushes n.departures n.spilled
+    (λ l made. holds_after g.F.Fabric c.args.policy.now.policy laid c.in_ok-run.run'.scheduler c.args.fabric.now c.run_through.new.fabric n.origin n.start.no_pushes n.start.no_departures n.spilled
     _ c.forward_over.new.run.scheduler c.forward_over.new.under made.state made.pushed made.asked made.origin made.spilled))
     c.forward_over.ensures.state
 
@@ -36,7 +36,7 @@ returns-clause-fabric_part g c =
       made = some.made;
       unmade = some.unmade;
       whole = some.whole;
-      holds = holds_after g.F.Fabric c.args.policy.now.policy laid c.in_ok-run.run'.scheduler c.args.fabric.now c.run_through.new.fabric n.origin n.pushes n.departures n.spilled
+      holds = holds_after g.F.Fabric c.args.policy.now.policy laid c.in_ok-run.run'.scheduler c.args.fabric.now c.run_through.new.fabric n.origin n.start.no_pushes n.start.no_departures n.spilled
           some.made c.forward_over.new.run.scheduler c.forward_over.new.under some.leaves.state some.leaves.pushed some.leaves.asked some.leaves.origin some.leaves.spilled;
     })))
     c.forward_over.ensures.amid
@@ -47,8 +47,8 @@ returns-in_err-run-clause-fabric_part g c =
     left_before _ (left_of c.args.packets.now (g.S.Shelf.left c.args.shelf.now)) (λ l. LeavesPart g.F.Fabric (Some (forward_through c.args.policy.now.policy laid c.args.rate l)) c.args.fabric.now c.run_through.new.fabric)
     (λ l. c.in_err-run.ensures.part _)
 
-pub returns-in_err-recorder-clause-kept : goal.returns-in_err-recorder-clause-kept
-returns-in_err-recorder-clause-kept g c = sink-same g.K.Sink.written g.K.Sink.faults c.args.sink.now
+pub returns-in_err-recorder-clause-outside : goal.returns-in_err-recorder-clause-outside
+returns-in_err-recorder-clause-outside g c = record { kept = sink-same g.K.Sink.written g.K.Sink.faults c.args.sink.now; later = omega arith; cause = search rules }
 
-pub returns-in_err-run-clause-kept : goal.returns-in_err-run-clause-kept
-returns-in_err-run-clause-kept g c = sink-same g.K.Sink.written g.K.Sink.faults c.args.sink.now
+pub returns-in_err-run-clause-outside : goal.returns-in_err-run-clause-outside
+returns-in_err-run-clause-outside g c = record { kept = sink-same g.K.Sink.written g.K.Sink.faults c.args.sink.now; later = omega arith; cause = search rules }

@@ -6,14 +6,14 @@ use Rattle.sched_run.proofs.StepLaws.{on_err_given}
 use Rattle.sched_capture.proofs.FabricRuns.{holds_after}
 use Rattle.sched_capture.proofs.fabric.run_through.Goals as goal
 
-pub returns-clause-part : goal.returns-clause-part
-returns-clause-part g c =
+pub returns-in_err-run-clause-part : goal.returns-in_err-run-clause-part
+returns-in_err-run-clause-part g c =
     let laid : Laid = record { images = c.args.placement.map; arities = c.args.placement.target.arities } in
     let n = c.in_ok-scheduler.ensures in
-    on_err_given c.new.result _ (λ (events : List Event). inr (record {
+    on_err_given c.from_residual-in_err-run.result _ (λ (events : List Event). inr (record {
       made = [];
       unmade = events;
       whole = refl;
-      holds = holds_after g.F.Fabric c.args.policy.now.policy laid c.in_ok-scheduler.scheduler c.args.fabric.now c.scheduler_through.new.fabric n.origin n.pushes n.departures n.spilled [] c.in_ok-scheduler.scheduler c.scheduler_through.new.fabric
+      holds = holds_after g.F.Fabric c.args.policy.now.policy laid c.in_ok-scheduler.scheduler c.args.fabric.now c.new.new.fabric n.origin n.pushes n.departures n.spilled [] c.in_ok-scheduler.scheduler c.new.new.fabric
           n.stands (omega arith) (omega arith) refl (sym (raised_nothing _));
     }))

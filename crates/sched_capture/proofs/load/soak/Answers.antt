@@ -16,7 +16,7 @@ returns-clause-fabric g c =
     let policy = c.args.policy.now.policy in
     let laid : Laid = record { images = c.args.placement.map; arities = c.args.placement.target.arities } in
     let n = c.in_ok-run.ensures in
-    on_ok_weaker c.count_load.result (λ made. holds_after g.F.Fabric c.args.policy.now.policy laid c.in_ok-run.run'.scheduler c.args.fabric.now c.run_through.new.fabric n.origin n.pushes n.departures n.spilled
+    on_ok_weaker c.count_load.result (λ made. holds_after g.F.Fabric c.args.policy.now.policy laid c.in_ok-run.run'.scheduler c.args.fabric.now c.run_through.new.fabric n.origin n.start.no_pushes n.start.no_departures n.spilled
     (load_run policy c.args.load.seed c.args.load.count (start policy)) c.count_load.new.run.scheduler c.count_load.new.under made.state made.pushed made.asked made.origin made.spilled)
     c.count_load.ensures.state
 
@@ -28,7 +28,7 @@ returns-clause-fabric_part g c =
       made = some.made;
       unmade = some.unmade;
       whole = some.whole;
-      holds = holds_after g.F.Fabric c.args.policy.now.policy laid c.in_ok-run.run'.scheduler c.args.fabric.now c.run_through.new.fabric n.origin n.pushes n.departures n.spilled
+      holds = holds_after g.F.Fabric c.args.policy.now.policy laid c.in_ok-run.run'.scheduler c.args.fabric.now c.run_through.new.fabric n.origin n.start.no_pushes n.start.no_departures n.spilled
           some.made c.count_load.new.run.scheduler c.count_load.new.under some.leaves.state some.leaves.pushed some.leaves.asked some.leaves.origin some.leaves.spilled;
     }))
     c.count_load.ensures.amid

@@ -16,7 +16,7 @@ returns-in_err-played-clause-part g c =
     let r = c.requires.start in
     let packets = c.args.packets.now in
     let file = g.S.Shelf.left c.args.shelf.now in
-    rw p.1 (cut_amid g.C.Scheduler g.W.Recorder g.met.W.Recorder.joined (captures_of packets file) c.args.policy.now.policy (rw r.policy_is at r.set.accepted) c.args.pace _ (omega (arith, r.fresh.none_came, r.fresh.none_asked)) r.stands
+    rw p.1 (cut_amid g.C.Scheduler g.W.Recorder g.met.W.Recorder.joined (captures_of packets file) c.args.policy.now.policy (rw r.policy_is at r.set.accepted) c.args.pace _ (omega (arith, c.requires.fresh.none_came, c.requires.fresh.none_asked)) r.stands
     (left_of packets file) (there packets file) _ _ _ (rw r.policy_is at c.in_err-played.ensures.err))
 
 pub returns-clause-ending : goal.returns-clause-ending
@@ -24,7 +24,7 @@ returns-clause-ending g c =
     let r = c.requires.start in
     let packets = c.args.packets.now in
     let file = g.S.Shelf.left c.args.shelf.now in
-    recorded_ending g.C.Scheduler g.W.Recorder g.met.W.Recorder.joined (captures_of packets file) c.args.policy.now.policy (rw r.policy_is at r.set.accepted) c.args.pace _ (omega (arith, r.fresh.none_came, r.fresh.none_asked)) r.stands
+    recorded_ending g.C.Scheduler g.W.Recorder g.met.W.Recorder.joined (captures_of packets file) c.args.policy.now.policy (rw r.policy_is at r.set.accepted) c.args.pace _ (omega (arith, c.requires.fresh.none_came, c.requires.fresh.none_asked)) r.stands
     (left_of packets file) _ _ (rw r.policy_is at (rw c.in-Some.is at c.in_ok-played.ensures.ok))
 
 pub returns-clause-recorded : goal.returns-clause-recorded
@@ -32,7 +32,7 @@ returns-clause-recorded g c =
     let r = c.requires.start in
     let packets = c.args.packets.now in
     let file = g.S.Shelf.left c.args.shelf.now in
-    recorded_whole g.C.Scheduler g.W.Recorder g.met.W.Recorder.joined (captures_of packets file) c.args.policy.now.policy (rw r.policy_is at r.set.accepted) c.args.pace _ (omega (arith, r.fresh.none_came, r.fresh.none_asked)) r.stands
+    recorded_whole g.C.Scheduler g.W.Recorder g.met.W.Recorder.joined (captures_of packets file) c.args.policy.now.policy (rw r.policy_is at r.set.accepted) c.args.pace _ (omega (arith, c.requires.fresh.none_came, c.requires.fresh.none_asked)) r.stands
     (left_of packets file) (there packets file) _ _ (rw r.policy_is at (rw c.in-Some.is at c.in_ok-played.ensures.ok))
 
 pub returns-clause-can : goal.returns-clause-can
@@ -40,5 +40,5 @@ returns-clause-can g c =
     let r = c.requires.start in
     let packets = c.args.packets.now in
     let file = g.S.Shelf.left c.args.shelf.now in
-    can_whole g.C.Scheduler g.W.Recorder g.met.W.Recorder.joined (captures_of packets file) c.args.policy.now.policy (rw r.policy_is at r.set.accepted) c.args.pace _ (omega (arith, r.fresh.none_came, r.fresh.none_asked)) r.stands
+    can_whole g.C.Scheduler g.W.Recorder g.met.W.Recorder.joined (captures_of packets file) c.args.policy.now.policy (rw r.policy_is at r.set.accepted) c.args.pace _ (omega (arith, c.requires.fresh.none_came, c.requires.fresh.none_asked)) r.stands
     (left_of packets file) _ _ (rw r.policy_is at (rw c.in-Some.is at c.in_ok-played.ensures.ok))

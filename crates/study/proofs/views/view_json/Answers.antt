@@ -17,7 +17,7 @@ pub returns-in_err-recorded-clause-answer : goal.returns-in_err-recorded-clause-
 returns-in_err-recorded-clause-answer g c =
     let p = err_from_is_err_and c.from_residual-in_err-recorded.result c.from_residual-in_err-recorded.ensures.1 in
     let fresh = rw c.rate_of.ensures.rate at c.in_ok-recorder.ensures.nothing in
-    rw (p.1) (json_stopped c.args.policy.now (pace_of c.args.task.now.pace) _ fresh ghosts (λ captured a b os v r. r) (λ captured a b os r. r) _ _ _ _ c.in_err-recorded.ensures.part c.record.ensures.kept.begins)
+    rw (p.1) (json_stopped c.args.policy.now (pace_of c.args.task.now.pace) _ fresh ghosts (λ captured a b os v r. r) (λ captured a b os r. r) _ _ _ _ c.in_err-recorded.ensures.part c.record.ensures.outside.kept.begins)
 
 pub returns-in-Whole-clause-answer : goal.returns-in-Whole-clause-answer
 returns-in-Whole-clause-answer g c =

@@ -1,8 +1,7 @@
-use Rattle.std.proofs.Common.{rules, ◌≡◌, ◌∷◌, [], ◌++◌, ◌+◌, List, ℕ, length, drop, refl, sym, ap, ◌∙◌, arith, append_assoc}
-use Rattle.tree_defs.specs.Tree.{root_of}
+use Rattle.std.proofs.Common.{rules, ◌∷◌, [], ◌++◌, ◌+◌, List, ℕ, drop, refl, sym, ap, ◌∙◌, arith, append_assoc}
 use Rattle.embed_core.specs.Lanes.{image_depths}
 use Rattle.embed_core.proofs.LiftSteps.{step-within}
-use Rattle.embed_core.proofs.DepthSteps.{IsDepthStep, depth-down, depth-last}
+use Rattle.embed_core.proofs.DepthSteps.{IsDepthStep, depth-down}
 use Rattle.embed_core.proofs.map.Map.+depths_from.Goals as goal
 
 pub index-child-requires : goal.index-child-requires
