@@ -126,7 +126,7 @@ class Parser(unittest.TestCase):
 class Sources(unittest.TestCase):
     def test_calls_of_functions_types_and_traits_are_found(self):
         for crate, name in (("outside_core", "load"), ("report_core", "Report::finish"), ("sched_core", "Scheduler::arrive"),
-                            ("tap_core", "Watching::lines"), ("pifo_defs", "nothing_leaves_an_empty_queue")):
+                            ("tap_core", "Watching::lines"), ("tree_defs", "nothing_leaves_an_empty_queue")):
             self.assertIn(name, [call.name for call in public_calls.calls(crate)])
         self.assertNotIn("Buffer::flush", [call.name for call in public_calls.calls("report_core")])
         self.assertEqual([], [call.name for call in public_calls.calls("tree_defs") if not call.is_law])

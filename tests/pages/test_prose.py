@@ -131,7 +131,7 @@ class Names(unittest.TestCase):
 
     def test_functions(self):
         for text in ("`take_least`", "`HeapPifo::push`", "`heap_ties_newest_first`", "`kept`", "`no such words`", "`pifo_core`",
-                     "`take_least` (pifo_defs/specs/Queue.antt)", "`push` of `HeapPifo` (pifo_core/src/heap.rt)",
+                     "`take_least` (tree_defs/specs/Queue.antt)", "`push` of `HeapPifo` (pifo_core/src/heap.rt)",
                      "`NOT_RUN`", "`tc`", "`none-at-all`\n\n    $ echo none-at-all"):
             with self.subTest(text):
                 self.assertEqual([], self.faults(text))

@@ -110,7 +110,7 @@ class Page(unittest.TestCase):
         with tempfile.TemporaryDirectory() as folder:
             page = pathlib.Path(folder, "page.md")
             shutil.copy(TOP / "docs/DEFINITIONS.md", page)
-            page.write_text(page.read_text().replace(" pifo_defs\n", " pifo_other\n"))
+            page.write_text(page.read_text().replace(" tree_defs\n", " tree_other\n"))
             self.assertEqual(1, statement("--check", "--page", page).returncode)
             self.assertEqual(0, statement("--write", "--page", page).returncode)
             self.assertEqual((TOP / "docs/DEFINITIONS.md").read_text(), page.read_text())

@@ -5,8 +5,8 @@ use Rattle.std.proofs.lemmas.Bool.{cases_Bool, cases_lt, lt-ltb, le-ltb, eqb-tru
 use Rattle.std.proofs.lemmas.Bool.Decides.{nat_tests}
 use Rattle.std.proofs.Math.Nat.{eq-or-lt_of_le}
 use Rattle.std.proofs.lemmas.List.{append_assoc}
-use Rattle.pifo_defs.specs.Queue.{put, take_least}
-use Rattle.pifo_defs.proofs.TakeLeast.{AllAbove, AllFrom, take_least-split}
+use Rattle.tree_defs.specs.Queue.{put, take_least}
+use Rattle.tree_defs.proofs.TakeLeast.{AllAbove, AllFrom, take_least-split}
 use Rattle.block_core.specs.declared.waiting.Waiting.{Waiting}
 use Rattle.block_core.specs.Arrival.{weight, came_as, coming, in_order, pair, queue_of, Precedes}
 use Rattle.block_core.specs.Block.{IsNumbered}

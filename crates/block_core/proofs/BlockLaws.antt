@@ -9,7 +9,7 @@ use Rattle.std.proofs.lemmas.Bool.{cases_Bool, cases_lt, lt-ltb, le-ltb, eqb-tru
 use Rattle.std.proofs.lemmas.Bool.Decides.{nat_tests}
 use Rattle.std.proofs.lemmas.List.Sorted.{IsPermutation-map, All-permutation}
 use Rattle.std.proofs.lemmas.List.Elements.{All-from_recursion, recursion_from_All}
-use Rattle.pifo_defs.specs.Queue.{put, take_least}
+use Rattle.tree_defs.specs.Queue.{put, take_least}
 use Rattle.block_core.specs.declared.waiting.Waiting.{Waiting}
 use Rattle.block_core.specs.Arrival.{weight, came_as, in_order, pair, queue_of, Precedes}
 use Rattle.block_core.specs.Stores.{waiting_in, head_of, heads_of, last_rank, IsFifo, flow_of, IsStored}

@@ -1,9 +1,9 @@
 -- The pushes that spill at a node of a fabric.
 use Rattle.std.proofs.Common.{◌≡◌, ◌<◌, ◌-◌, ◌&&◌, ◌||◌, Bool, ℕ, zero, suc, eqb, ltb, List, [], ◌∷◌, length, refl, ap, sym, subst, ◌∙◌, arith, inl, inr}
 use Rattle.std.proofs.lemmas.Bool.{cases_lt, lt-ltb, le-ltb}
-use Rattle.pifo_defs.specs.Queue.{Queue}
-use Rattle.target_defs.specs.Family.{IsLeafAddress}
-use Rattle.target_defs.specs.Spills.{spills_for, spills_at_leaf}
+use Rattle.tree_defs.specs.Queue.{Queue}
+use Rattle.embed_defs.specs.Family.{IsLeafAddress}
+use Rattle.embed_defs.specs.Spills.{spills_for, spills_at_leaf}
 use Rattle.fabric_core.specs.Array.{nodes}
 use Rattle.fabric_core.specs.Flow.{NamesBelow}
 use Rattle.block_core.specs.Stores.{flow_of}

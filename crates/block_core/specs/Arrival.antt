@@ -1,6 +1,6 @@
 -- The queued entries in order of arrival.
 use Rattle.std.specs.Prelude.{◌≡◌, refl, ◌≤◌, ℕ, zero, suc, ◌+◌, List, [], ◌∷◌, ◌++◌, map, nat_eq, if◌then◌else◌}
-use Rattle.pifo_defs.specs.Queue.{Queue}
+use Rattle.tree_defs.specs.Queue.{Queue}
 use Rattle.block_core.specs.declared.waiting.Waiting.{Waiting}
 
 -- the sum of a weight over the entries

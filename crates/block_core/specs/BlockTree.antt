@@ -1,7 +1,7 @@
 -- The contents of a fabric of rank stores.
 use Rattle.std.specs.Prelude.{ℕ, ◌≡◌, ◌≤◌, ◌*◌, ◌^◌, [], List, map}
-use Rattle.pifo_defs.specs.Queue.{Queue}
-use Rattle.target_defs.specs.Family.{Address, Family, IsEmpty}
+use Rattle.tree_defs.specs.Queue.{Queue}
+use Rattle.embed_defs.specs.Family.{Address, Family, IsEmpty}
 use Rattle.fabric_core.specs.Array.{queues_at, room_at, flows_at}
 use Rattle.fabric_core.specs.Flow.{HasFlows, IsSound}
 use Rattle.block_core.specs.Block.{Block}

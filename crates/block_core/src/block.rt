@@ -93,7 +93,7 @@ impl BlockPifo {
 
 impl Pifo for BlockPifo {
     ghost use Rattle.std.specs.Prelude.{◌^◌};
-    ghost use Rattle.pifo_defs.specs.Queue.{put};
+    ghost use Rattle.tree_defs.specs.Queue.{put};
     ghost use Rattle.pifo_core.specs.Taking.{Pops};
 
     ghost entries = { λ b. b.entries };

@@ -17,7 +17,7 @@ use Rattle.sched_defs.specs.SendTime.{plain_rate}
 use Rattle.sched_core.specs.Spills.{raised}
 use Rattle.sched_embedded.specs.Fabrics.{FabricRun, run_of, Leaves, LeavesPart, HoldsAfter}
 use Rattle.sched_embedded.specs.Laid.{Laid}
-use Rattle.sched_packets.specs.SingleLinkType.{one_link_in, link_in}
+use Rattle.sched_capture.specs.SingleLinkType.{one_link_in, link_in}
 use Rattle.sched_capture.specs.Answers.{answer_over}
 use Rattle.sched_capture.specs.Forwards.{forward_over}
 use Rattle.mapcheck_core.specs.declared.fault.MapFault.{MapFault}

@@ -5,13 +5,13 @@ use Rattle.std.specs.Prelude.{slice_index, unwrap_or}
 use Rattle.std.specs.List.{AllByRecursion}
 use Rattle.std.proofs.lemmas.Bool.{eqb-true, le-ltb}
 use mathlib.Core.Path.{fun_ext}
-use Rattle.pifo_defs.specs.Queue.{Entry, Queue}
+use Rattle.tree_defs.specs.Queue.{Entry, Queue}
 use Rattle.tree_defs.specs.Tree.{Tree, leaf, inner, Trees, none, more, Address, LeadsToLeaf, LeadsBelow, SameShape, SameShapes, HasChild, IsAddressOf, subtree_in}
 use Rattle.tree_defs.specs.SourceTree.{SourceTree}
 use Rattle.tree_defs.proofs.TopologyLaws.{after-append}
 use Rattle.tree_defs.proofs.WellFormedLaws.{leads_has}
-use Rattle.target_defs.specs.Family.{Family, below}
-use Rattle.target_defs.specs.Spills.{spills_for, spills_at_leaf, counted, spills_along}
+use Rattle.embed_defs.specs.Family.{Family, below}
+use Rattle.embed_defs.specs.Spills.{spills_for, spills_at_leaf, counted, spills_along}
 use Rattle.embed_defs.specs.Placed.{Placement, Placements, part, IsPlaced, ArePlaced, lift_digits, digits_below}
 use Rattle.embed_defs.proofs.Addresses.{some_of_cond}
 use Rattle.embed_defs.specs.Lift.{digit_beyond, lift_ranks}

@@ -2,7 +2,7 @@
 use Rattle.std.specs.Prelude.{◌≡◌, refl, ℕ, zero, Option, None, Some, List, [], ◌∷◌, ◌++◌, decimal, codes}
 use Rattle.std.specs.Fmt.{digits}
 use Rattle.rank_defs.specs.Builtins.{Builtin, named, shortest, fifo}
-use Rattle.report_defs.specs.Report.{line_of}
+use Rattle.outside_core.specs.Report.{line_of}
 use Rattle.sched_defs.specs.SourceState.{start}
 use Rattle.sched_defs.specs.Events.{Arrive}
 use Rattle.sched_defs.specs.Rows.{packet}

@@ -6,7 +6,7 @@ use Rattle.tree_defs.specs.Topology.{IsWithin}
 use Rattle.embed_defs.specs.Need.{FitsBelow, needs_at, leaves_below}
 use Rattle.embed_defs.specs.Canonical.{Child, comes_before, digits, start_of, children, IsAmong}
 use Rattle.embed_defs.specs.Counting.{value}
-use Rattle.target_defs.specs.Levels.{Arities, down_from}
+use Rattle.embed_defs.specs.Levels.{Arities, down_from}
 use Rattle.embed_defs.proofs.Levels.{ArePositive}
 use Rattle.embed_defs.proofs.Blocks.{start-below}
 use Rattle.embed_defs.proofs.CanonicalPlaced.{all-leaves}

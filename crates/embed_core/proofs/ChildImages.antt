@@ -4,7 +4,7 @@ use Rattle.std.proofs.lemmas.List.{drop_all}
 use Rattle.tree_defs.specs.Tree.{Tree, inner, more, trees_of, root_of, nodes, Address}
 use Rattle.tree_core.specs.TreeContents.{branch}
 use Rattle.embed_defs.specs.Canonical.{Child, image_part, children, canonical, canonicals}
-use Rattle.target_defs.specs.Levels.{Arities}
+use Rattle.embed_defs.specs.Levels.{Arities}
 use Rattle.embed_core.proofs.PlacedChildren.{child-count}
 
 abbrev pub images_from : Arities → ℕ → Address → List Child → List (Tree ℕ) → ℕ → List (Tree Address)

@@ -6,7 +6,7 @@ use Rattle.tree_defs.specs.Topology.{Topology, IsBranched}
 use Rattle.tree_core.specs.Shape.{topology}
 use Rattle.tree_core.specs.TreeContents.{branch}
 use Rattle.embed_defs.specs.Need.{IsLeast, FitsBelow, needs_at, HoldNeeds, AreNeedsOf, enough}
-use Rattle.target_defs.specs.Levels.{Arities}
+use Rattle.embed_defs.specs.Levels.{Arities}
 use Rattle.embed_defs.specs.Laws.{AreWide}
 use Rattle.tree_core.specs.declared.topo.Topo.{Topo}
 use Rattle.tree_core.specs.declared.topo.Topo.TheViews as views

@@ -2,7 +2,7 @@
 use Rattle.std.proofs.Common.{◌≡◌, ℕ, zero, suc, ◌+◌, ◌/◌, ◌%◌, ◌<◌, ◌≤◌, min, eqb, List, [], ◌∷◌, length, get_or, refl, arith}
 use Rattle.std.specs.List.{count_by}
 use Rattle.embed_defs.specs.Need.{IsLeast, FitsBelow, AreLower, enough}
-use Rattle.target_defs.specs.Levels.{Arities}
+use Rattle.embed_defs.specs.Levels.{Arities}
 use Rattle.embed_defs.specs.Laws.{AreWide}
 use Rattle.embed_defs.proofs.EnoughHeights.{wide-positive}
 use Rattle.embed_defs.proofs.CarriedCounts.{times, carried, times-count, carried-fits, carried-bound}

@@ -5,7 +5,7 @@ use Rattle.std.proofs.lemmas.List.{length-set}
 use Rattle.tree_defs.specs.Topology.{IsWithin}
 use Rattle.embed_defs.specs.Need.{leaves_below}
 use Rattle.embed_defs.specs.Counting.{value}
-use Rattle.target_defs.specs.Levels.{Arities, down_from}
+use Rattle.embed_defs.specs.Levels.{Arities, down_from}
 use Rattle.embed_defs.proofs.LeafNumbers.{value-set, within-set, digit-below}
 
 module _ (a : Arities) (ds : List ℕ) (i k : ℕ) (e : i + k + 1 ≡ length ds) (w : IsWithin (down_from a (length ds)) ds) where

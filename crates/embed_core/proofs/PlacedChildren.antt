@@ -4,7 +4,7 @@ use Rattle.tree_defs.specs.Tree.{Tree, leaf, inner, trees_of, nodes, nodes_below
 use Rattle.tree_core.specs.TreeContents.{branch}
 use Rattle.embed_defs.specs.Need.{FitsBelow, needs_at, AreLower, HoldsNeeds, HoldNeeds, HasHeight}
 use Rattle.embed_defs.specs.Canonical.{children, IsAmong}
-use Rattle.target_defs.specs.Levels.{Arities}
+use Rattle.embed_defs.specs.Levels.{Arities}
 use Rattle.embed_defs.proofs.Levels.{ArePositive, leaves-le}
 use Rattle.embed_defs.proofs.EnoughHeights.{lower-more}
 

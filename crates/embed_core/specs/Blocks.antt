@@ -1,7 +1,7 @@
 -- The block of leaves that a child takes below its parent.
 use Rattle.std.specs.Prelude.{◌≡◌, ℕ, ◌+◌, ◌<◌, length}
 use Rattle.tree_defs.specs.Tree.{Trees, Address}
-use Rattle.target_defs.specs.Levels.{Arities}
+use Rattle.embed_defs.specs.Levels.{Arities}
 use Rattle.embed_defs.specs.Need.{leaves_below}
 use Rattle.embed_defs.specs.Canonical.{Child, digits, start_of, children}
 use Rattle.embed_defs.specs.Counting.{value}

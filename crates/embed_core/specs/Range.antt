@@ -1,8 +1,8 @@
 -- The arities of a target by height, and the topologies that fit in its levels.
 use Rattle.std.specs.Prelude.{ℕ}
 use Rattle.tree_defs.specs.Topology.{Topology, complete}
-use Rattle.target_defs.specs.Levels.{Arities, levels}
-use Rattle.target_defs.specs.Target.{lowest}
+use Rattle.embed_defs.specs.Levels.{Arities, levels}
+use Rattle.embed_defs.specs.Target.{lowest}
 use Rattle.target_core.specs.declared.target.Target.{Target}
 use Rattle.embed_defs.specs.Embedding.{HasEmbedding}
 

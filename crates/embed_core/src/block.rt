@@ -2,11 +2,11 @@
 ghost use Rattle.std.specs.Prelude.{◌≡◌, ◌+◌, ◌<◌, length, IfOk};
 ghost use Rattle.tree_defs.specs.Tree.{trees_of};
 ghost use Rattle.tree_defs.specs.Topology.{IsWithin};
-ghost use Rattle.target_defs.specs.Levels.{down_from};
+ghost use Rattle.embed_defs.specs.Levels.{down_from};
 ghost use Rattle.embed_defs.specs.Need.{FitsBelow, needs_at};
 ghost use Rattle.embed_defs.specs.Canonical.{IsAmong, digits, children, comes_before};
 ghost use Rattle.embed_defs.specs.Counting.{value};
-ghost use Rattle.target_defs.specs.Target.{IsInRange};
+ghost use Rattle.embed_defs.specs.Target.{IsInRange};
 ghost use Rattle.embed_core.specs.Range.{levels_of};
 ghost use Rattle.embed_core.specs.Blocks.{start_digits, PassesBlock};
 

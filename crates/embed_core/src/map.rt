@@ -4,7 +4,7 @@ ghost use Rattle.tree_defs.specs.Tree.{nodes, depth as levels, root_of, trees_of
 ghost use Rattle.tree_defs.specs.Topology.{IsBranched, complete};
 ghost use Rattle.tree_core.specs.Shape.{topology};
 ghost use Rattle.tree_core.specs.TreeContents.{branch};
-ghost use Rattle.target_defs.specs.Target.{IsInRange, lowest};
+ghost use Rattle.embed_defs.specs.Target.{IsInRange, lowest};
 ghost use Rattle.embed_defs.specs.Embedding.{IsEmbedding, HasEmbedding};
 ghost use Rattle.embed_defs.specs.Need.{IsLeast, IsNeed, HoldsNeeds, HasHeight};
 ghost use Rattle.embed_defs.specs.Canonical.{canonical, IsCanonical};

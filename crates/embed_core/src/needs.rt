@@ -5,7 +5,7 @@ ghost use Rattle.tree_defs.specs.Topology.{IsBranched};
 ghost use Rattle.tree_core.specs.Shape.{topology};
 ghost use Rattle.tree_core.specs.TreeContents.{branch};
 ghost use Rattle.embed_defs.specs.Need.{IsLeast, FitsBelow, AreNeedsOf, HasHeight, enough};
-ghost use Rattle.target_defs.specs.Target.{IsInRange};
+ghost use Rattle.embed_defs.specs.Target.{IsInRange};
 ghost use Rattle.embed_core.specs.Range.{levels_of};
 
 use std::alloc::{AllocError, Global};

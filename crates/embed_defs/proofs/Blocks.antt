@@ -6,7 +6,7 @@ use Rattle.std.proofs.lemmas.List.{nil_from_length, length-take-le}
 use Rattle.tree_defs.specs.Tree.{Address}
 use Rattle.tree_defs.specs.Topology.{after}
 use Rattle.tree_defs.proofs.TopologyLaws.{after-append, after-is}
-use Rattle.target_defs.specs.Levels.{Arities}
+use Rattle.embed_defs.specs.Levels.{Arities}
 use Rattle.embed_defs.specs.Need.{leaves_below}
 use Rattle.embed_defs.specs.Canonical.{digits, Child, IsAmong, comes_before, start_of, image_part}
 use Rattle.embed_defs.proofs.Levels.{ArePositive, leaves-positive}

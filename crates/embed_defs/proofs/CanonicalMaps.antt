@@ -4,7 +4,7 @@ use Rattle.tree_defs.specs.Tree.{Tree, leaf, inner, Trees, none, more, Address, 
 use Rattle.tree_defs.specs.Topology.{after}
 use Rattle.tree_defs.proofs.TopologyLaws.{after-append}
 use Rattle.tree_defs.proofs.Shapes.{same_shape, topology_of-same}
-use Rattle.target_defs.specs.Levels.{Arities}
+use Rattle.embed_defs.specs.Levels.{Arities}
 use Rattle.embed_defs.specs.Canonical.{Child, image_part, children, canonical, canonicals}
 use Rattle.embed_defs.specs.Placed.{IsPlaced, ArePlaced, IsApartFrom}
 use Rattle.embed_defs.proofs.Addresses.{after-sum}

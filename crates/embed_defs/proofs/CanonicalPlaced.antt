@@ -4,7 +4,7 @@ use Rattle.std.specs.Prelude.{sum_by}
 use Rattle.std.proofs.lemmas.List.Sums.{sum_by-cons}
 use Rattle.tree_defs.specs.Tree.{Tree, leaf, inner, Trees, none, more, Address, SameShape, SameShapes, root_of}
 use Rattle.tree_defs.specs.Topology.{after, IsWithin}
-use Rattle.target_defs.specs.Levels.{Arities, down_from}
+use Rattle.embed_defs.specs.Levels.{Arities, down_from}
 use Rattle.embed_defs.specs.Need.{leaves_below, needs_at, AreLower, HoldsNeeds, HoldNeeds, HasHeight}
 use Rattle.embed_defs.specs.Canonical.{Child, IsAmong, digits, start_of, image_part, children}
 use Rattle.embed_defs.specs.Placed.{Placement, Placements, IsApartFrom, IsPlaced, ArePlaced}

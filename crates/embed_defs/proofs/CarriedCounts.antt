@@ -7,7 +7,7 @@ use Rattle.std.proofs.lemmas.List.Sums.{sum_by-cons}
 use Rattle.std.proofs.lemmas.Grind.{div_ceil_times}
 use Rattle.std.proofs.lemmas.List.Recursion.{is_count_by}
 use Rattle.std.specs.List.{count_by}
-use Rattle.target_defs.specs.Levels.{Arities}
+use Rattle.embed_defs.specs.Levels.{Arities}
 use Rattle.embed_defs.specs.Need.{leaves_below, AreLower, FitsBelow}
 use Rattle.embed_defs.proofs.Levels.{ArePositive, leaves-positive}
 

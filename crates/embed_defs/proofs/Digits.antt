@@ -5,7 +5,7 @@ use Rattle.std.proofs.lemmas.Nat.{mod_below}
 use Rattle.std.proofs.lemmas.Bool.{eqb-true}
 use Rattle.tree_defs.specs.Tree.{Address}
 use Rattle.tree_defs.specs.Topology.{after, IsWithin}
-use Rattle.target_defs.specs.Levels.{Arities, down_from}
+use Rattle.embed_defs.specs.Levels.{Arities, down_from}
 use Rattle.embed_defs.specs.Need.{leaves_below}
 use Rattle.embed_defs.specs.Canonical.{digits}
 use Rattle.embed_defs.proofs.Levels.{ArePositive, leaves-positive}

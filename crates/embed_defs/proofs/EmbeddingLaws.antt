@@ -2,7 +2,7 @@
 use Rattle.std.proofs.Common.{ℕ, [], refl, sym, ap, ◌∙◌}
 use Rattle.tree_defs.specs.Tree.{Tree, root_of}
 use Rattle.tree_defs.specs.Topology.{Topology}
-use Rattle.target_defs.specs.Levels.{Arities}
+use Rattle.embed_defs.specs.Levels.{Arities}
 use Rattle.embed_defs.specs.Need.{IsNeed, AreNeedsOf}
 use Rattle.embed_defs.specs.Canonical.{canonical}
 use Rattle.embed_defs.specs.Laws.{TopologiesHaveOneNeed, NeedsAreLeastHeights, EmbeddingsNeedRoom, CanonicalPlacementsAreEmbeddings, CanonicalPlacementsAreOne}

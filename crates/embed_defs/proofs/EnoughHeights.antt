@@ -4,7 +4,7 @@ use Rattle.std.specs.Prelude.{sum_by}
 use Rattle.std.proofs.Math.Nat.{mul-le-mul_left}
 use Rattle.std.proofs.lemmas.List.Sums.{sum_by-cons}
 use Rattle.tree_defs.specs.Tree.{Tree, leaf, inner, Trees, none, more, root_of, nodes, nodes_below}
-use Rattle.target_defs.specs.Levels.{Arities}
+use Rattle.embed_defs.specs.Levels.{Arities}
 use Rattle.embed_defs.specs.Need.{leaves_below, AreLower, FitsBelow, enough, needs_at, HoldsNeeds, HoldNeeds}
 use Rattle.embed_defs.specs.Laws.{AreWide}
 use Rattle.embed_defs.proofs.Levels.{ArePositive, leaves-le}

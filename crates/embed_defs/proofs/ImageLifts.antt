@@ -1,13 +1,13 @@
 -- The lift under a good map's images is the lift under the parts of its placement.
 use Rattle.std.proofs.Common.{◌≡◌, ℕ, zero, suc, ◌↔◌, [], ◌∷◌, ◌++◌, Option, Some, None, refl, sym, ap, ◌∙◌, subst}
 use mathlib.Core.Path.{fun_ext}
-use Rattle.pifo_defs.specs.Queue.{Queue}
+use Rattle.tree_defs.specs.Queue.{Queue}
 use Rattle.tree_defs.specs.Tree.{Tree, leaf, inner, none, more, Address, SameShape, subtree, subtree_in, IsAddressOf}
 use Rattle.tree_defs.specs.Topology.{IsPrefixOf}
 use Rattle.tree_defs.specs.SourceTree.{SourceTree}
 use Rattle.tree_defs.proofs.Shapes.{same_shape, topology_of-same}
 use Rattle.tree_defs.proofs.TopologyLaws.{after-is}
-use Rattle.target_defs.specs.Family.{Family, SameQueues}
+use Rattle.embed_defs.specs.Family.{Family, SameQueues}
 use Rattle.embed_defs.specs.Images.{image_map}
 use Rattle.embed_defs.specs.Placed.{Placement, Placements, part, lift_digits, IsPlaced}
 use Rattle.embed_defs.proofs.Addresses.{none_unless}

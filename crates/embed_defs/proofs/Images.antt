@@ -6,7 +6,7 @@ use Rattle.tree_defs.specs.Tree.{Tree, leaf, inner, Trees, none, more, Address, 
 use Rattle.tree_defs.specs.Topology.{Topology, complete}
 use Rattle.tree_defs.proofs.Shapes.{topology_of-same, same_shape}
 use Rattle.tree_defs.proofs.TopologyLaws.{leaf_at}
-use Rattle.target_defs.specs.Levels.{Arities, down_from}
+use Rattle.embed_defs.specs.Levels.{Arities, down_from}
 use Rattle.embed_defs.specs.Embedding.{IsEmbedding, HasEmbedding}
 use Rattle.embed_defs.specs.Need.{IsLeast, AreNeedsOf, HasHeight, IsNeed}
 use Rattle.embed_defs.specs.Canonical.{Child, image_part, children, canonical, canonicals}

@@ -6,7 +6,7 @@ use Rattle.std.proofs.lemmas.Nat.{div-mul-add}
 use Rattle.std.proofs.lemmas.List.{length-set}
 use Rattle.tree_defs.specs.Tree.{Address}
 use Rattle.tree_defs.specs.Topology.{IsWithin}
-use Rattle.target_defs.specs.Levels.{Arities, down_from}
+use Rattle.embed_defs.specs.Levels.{Arities, down_from}
 use Rattle.embed_defs.specs.Need.{leaves_below}
 use Rattle.embed_defs.specs.Canonical.{digits}
 use Rattle.embed_defs.specs.Counting.{value}

@@ -35,3 +35,5 @@ pub mod SpillsOfLifts
 pub mod ComposedMaps
 pub mod TreesOfImages
 pub mod PreorderTrees
+pub mod LevelLaws
+pub mod LeafCounts

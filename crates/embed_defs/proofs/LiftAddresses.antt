@@ -1,10 +1,10 @@
 -- Addresses that pass others, and a push along an address with a given prefix.
 use Rattle.std.proofs.Common.{◌≡◌, ℕ, true, eqb, List, [], ◌∷◌, ◌++◌, length, replicate, Some, None, refl, sym, ap, ◌∙◌, eq-eqb, inl, inr}
 use Rattle.std.proofs.lemmas.Bool.{eqb-true, cases_Bool}
-use Rattle.pifo_defs.specs.Queue.{put}
+use Rattle.tree_defs.specs.Queue.{put}
 use Rattle.tree_defs.specs.Tree.{Address}
 use Rattle.tree_defs.specs.Topology.{after}
-use Rattle.target_defs.specs.Family.{Family, push_along, below}
+use Rattle.embed_defs.specs.Family.{Family, push_along, below}
 use Rattle.embed_defs.proofs.Addresses.{some_of_cond}
 use Rattle.embed_defs.specs.Lift.{digit_beyond}
 

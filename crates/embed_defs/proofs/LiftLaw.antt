@@ -3,7 +3,7 @@
 use Rattle.std.proofs.Common.{◌≡◌, ℕ, zero, suc, ◌≤◌, [], ◌∷◌, ◌++◌, length, Option, Some, None, refl, sym, ap, ◌∙◌, subst, arith, append_assoc, append-nil, length-append}
 use Rattle.std.specs.Prelude.{unwrap_or}
 use mathlib.Core.Path.{fun_ext}
-use Rattle.pifo_defs.specs.Queue.{Queue}
+use Rattle.tree_defs.specs.Queue.{Queue}
 use Rattle.tree_defs.specs.Tree.{Tree, leaf, inner, Trees, none, more, Address, HasChild, SameShape, SameShapes, subtree, subtree_in, IsAddressOf}
 use Rattle.tree_defs.specs.Topology.{after}
 use Rattle.tree_defs.proofs.TopologyLaws.{after-append, after-is}

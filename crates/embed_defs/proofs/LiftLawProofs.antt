@@ -2,14 +2,14 @@
 use Rattle.std.proofs.Common.{◌≡◌, ℕ, ◌-◌, List, [], ◌∷◌, length, Option, Some, None, refl, sym, ap, ◌∙◌, subst, arith}
 use Rattle.std.specs.Prelude.{unwrap_or, option_map}
 use mathlib.Core.Path.{fun_ext}
-use Rattle.pifo_defs.specs.Queue.{Queue}
+use Rattle.tree_defs.specs.Queue.{Queue}
 use Rattle.tree_defs.specs.Tree.{Tree, leaf, inner, Trees, none, more, Address, Popping, LeadsToLeaf, root_of}
 use Rattle.tree_defs.specs.Topology.{Topology, after}
 use Rattle.tree_defs.specs.SourceTree.{SourceTree, empty_tree, empty_trees, push, pop, IsWellFormed}
 use Rattle.tree_defs.proofs.Shapes.{same_shape, topology_of-same, topology_of-push, topology_of-pop, pop-path}
 use Rattle.tree_defs.proofs.TopologyLaws.{leaf_at}
 use Rattle.tree_defs.proofs.WellFormedLaws.{in_range}
-use Rattle.target_defs.specs.Family.{Family, push_along, pop_along}
+use Rattle.embed_defs.specs.Family.{Family, push_along, pop_along}
 use Rattle.embed_defs.specs.Images.{image_map}
 use Rattle.embed_defs.specs.Placed.{Placement, Placements, lift_digits}
 use Rattle.embed_defs.specs.Lift.{IsLift, lift_ranks}

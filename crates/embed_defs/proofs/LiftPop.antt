@@ -3,7 +3,7 @@ use Rattle.std.proofs.Common.{◌≡◌, ◌≢◌, ℕ, zero, suc, ◌+◌, ◌
 use Rattle.std.specs.Prelude.{unwrap_or, option_map}
 use Rattle.std.proofs.lemmas.Bool.{eqb-true, cases_Bool}
 use mathlib.Core.Path.{fun_ext}
-use Rattle.pifo_defs.specs.Queue.{Queue, Taking, take_least, take_from}
+use Rattle.tree_defs.specs.Queue.{Queue, Taking, take_least, take_from}
 use Rattle.tree_defs.specs.Tree.{Tree, leaf, inner, Trees, none, more, Address, Popping, HasChild, SameShape, SameShapes, root_of}
 use Rattle.tree_defs.specs.Topology.{after}
 use Rattle.tree_defs.specs.SourceTree.{pop, pop_child, of_leaf, of_inner, of_first, of_later, IsInRange, AreInRange}
@@ -11,7 +11,7 @@ use Rattle.tree_defs.proofs.Options.{option_map-some}
 use Rattle.tree_defs.proofs.Shapes.{topologies_of-same, same_shapes, topologies_of-pop}
 use Rattle.tree_defs.proofs.TopologyLaws.{after-append}
 use Rattle.tree_defs.proofs.WellFormedLaws.{taken_names, pop_child-has_child}
-use Rattle.target_defs.specs.Family.{Family, below, pop_along, popped_last, popped_digit, with_root, with_branch}
+use Rattle.embed_defs.specs.Family.{Family, below, pop_along, popped_last, popped_digit, with_root, with_branch}
 use Rattle.embed_defs.specs.Placed.{Placement, Placements, part, IsPlaced, ArePlaced, digits_below}
 use Rattle.embed_defs.proofs.Addresses.{some_of_cond}
 use Rattle.embed_defs.specs.Lift.{digit_beyond}

@@ -3,13 +3,13 @@ use Rattle.std.proofs.Common.{◌≡◌, ◌≢◌, ℕ, zero, suc, List, [], �
 use Rattle.std.specs.Prelude.{unwrap_or, option_map, slice_index, drop}
 use Rattle.std.proofs.lemmas.List.Elements.{filter_map-append}
 use mathlib.Core.Path.{fun_ext}
-use Rattle.pifo_defs.specs.Queue.{Queue, put}
+use Rattle.tree_defs.specs.Queue.{Queue, put}
 use Rattle.tree_defs.specs.Tree.{Tree, leaf, inner, Trees, none, more, Address, LeadsToLeaf, LeadsBelow, HasChild, SameShape, SameShapes, root_of}
 use Rattle.tree_defs.specs.Topology.{after}
 use Rattle.tree_defs.specs.SourceTree.{push, push_child}
 use Rattle.tree_defs.proofs.TopologyLaws.{after-append}
 use Rattle.tree_defs.proofs.WellFormedLaws.{leads_has}
-use Rattle.target_defs.specs.Family.{Family, push_along}
+use Rattle.embed_defs.specs.Family.{Family, push_along}
 use Rattle.embed_defs.specs.Placed.{Placement, Placements, part, IsApartFrom, IsPlaced, ArePlaced, lift_digits, digits_below}
 use Rattle.embed_defs.proofs.Addresses.{one_prefix}
 use Rattle.embed_defs.proofs.PlacedEmbeddings.{apart_part}

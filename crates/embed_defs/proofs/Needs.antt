@@ -4,7 +4,7 @@ use Rattle.std.specs.Prelude.{sum_by}
 use Rattle.std.proofs.lemmas.Bool.{cases_lt}
 use Rattle.tree_defs.specs.Tree.{Tree, leaf, inner, Trees, none, more, SameShape, SameShapes}
 use Rattle.tree_defs.specs.Topology.{Topology}
-use Rattle.target_defs.specs.Levels.{Arities}
+use Rattle.embed_defs.specs.Levels.{Arities}
 use Rattle.embed_defs.specs.Need.{IsLeast, leaves_below, AreLower, FitsBelow, enough, needs_at, HoldsNeeds, HoldNeeds, AreNeedsOf}
 use Rattle.embed_defs.specs.Laws.{AreWide}
 use Rattle.embed_defs.proofs.EnoughHeights.{enough-fits}

@@ -3,8 +3,8 @@ use Rattle.std.proofs.Common.{◌≡◌, ℕ, ◌≤◌, ◌<◌, [], ◌∷◌,
 use Rattle.std.proofs.lemmas.Bool.{lt-leb, cases_lt}
 use Rattle.std.specs.Prelude.{option_map}
 use Rattle.std.specs.List.{cons_option}
-use Rattle.pifo_defs.specs.Queue.{Queue, Entry, Taking, take_from, take_least}
-use Rattle.pifo_defs.proofs.TakeLeast.{NoneBelow, NoneBelow-le, take_from-front, take_from-behind, take_from-least, take_from-first, take_from-sooner}
+use Rattle.tree_defs.specs.Queue.{Queue, Entry, Taking, take_from, take_least}
+use Rattle.tree_defs.proofs.TakeLeast.{NoneBelow, NoneBelow-le, take_from-front, take_from-behind, take_from-least, take_from-first, take_from-sooner}
 use Rattle.embed_defs.specs.Lift.{passing_by}
 
 module _ (g : ℕ → Option ℕ) where

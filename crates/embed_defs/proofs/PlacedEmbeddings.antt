@@ -3,7 +3,7 @@ use Rattle.std.proofs.Common.{◌≡◌, ◌≢◌, ℕ, zero, suc, ◌-◌, [],
 use Rattle.tree_defs.specs.Tree.{leaf, inner, none, more, Address, SameShape, subtree, subtree_in, IsAddressOf, LeadsToLeaf, root_of}
 use Rattle.tree_defs.specs.Topology.{Topology, after, IsPrefixOf, complete, IsWithin}
 use Rattle.tree_defs.proofs.TopologyLaws.{leaf_at, after-append, after-is, address_of_complete, leaf_of_complete}
-use Rattle.target_defs.specs.Levels.{Arities, down_from}
+use Rattle.embed_defs.specs.Levels.{Arities, down_from}
 use Rattle.embed_defs.specs.Embedding.{IsEmbedding}
 use Rattle.embed_defs.specs.Placed.{Placement, Placements, part, IsApartFrom, IsPlaced, ArePlaced, lift_digits, digits_below}
 use Rattle.embed_defs.proofs.Levels.{address-append, address-short, length-down_from}

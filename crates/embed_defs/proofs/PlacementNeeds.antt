@@ -5,7 +5,7 @@ use Rattle.tree_defs.specs.Tree.{Tree, leaf, inner, Trees, none, more, Address, 
 use Rattle.tree_defs.specs.Topology.{Topology, after, IsPrefixOf, complete, IsWithin}
 use Rattle.tree_defs.proofs.Shapes.{topology_of-same, same_shape}
 use Rattle.tree_defs.proofs.TopologyLaws.{leads_to, after-append, after-is, within_complete, deep_leaf}
-use Rattle.target_defs.specs.Levels.{Arities, down_from}
+use Rattle.embed_defs.specs.Levels.{Arities, down_from}
 use Rattle.embed_defs.specs.Embedding.{IsEmbedding}
 use Rattle.embed_defs.specs.Need.{AreNeedsOf, IsNeed, HasHeight}
 use Rattle.embed_defs.specs.Placed.{Placement, Placements, IsApartFrom, IsPlaced, ArePlaced}

@@ -3,7 +3,7 @@ use Rattle.std.proofs.Common.{◌⊎◌, inl, inr, ℕ, [], refl, arith}
 use Rattle.std.proofs.lemmas.Bool.{cases_lt}
 use Rattle.tree_defs.specs.Tree.{Tree, leaf, inner, Address}
 use Rattle.tree_defs.specs.Topology.{Topology, complete}
-use Rattle.target_defs.specs.Levels.{Arities, down_from}
+use Rattle.embed_defs.specs.Levels.{Arities, down_from}
 use Rattle.embed_defs.specs.Embedding.{IsEmbedding, HasEmbedding}
 use Rattle.embed_defs.specs.Need.{AreNeedsOf, HasHeight}
 use Rattle.embed_defs.specs.Canonical.{canonical, IsCanonical}

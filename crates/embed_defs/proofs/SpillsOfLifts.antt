@@ -1,7 +1,7 @@
 -- A push spills at the same number of nodes in families of the same queues.
 use Rattle.std.proofs.Common.{◌≡◌, ℕ, List, [], ◌∷◌, refl, drop}
-use Rattle.target_defs.specs.Family.{Family, Address, below, SameQueues}
-use Rattle.target_defs.specs.Spills.{spills_along}
+use Rattle.embed_defs.specs.Family.{Family, Address, below, SameQueues}
+use Rattle.embed_defs.specs.Spills.{spills_along}
 use Rattle.embed_defs.specs.Images.{image_map}
 use Rattle.embed_defs.specs.Lift.{lift_ranks}
 use Rattle.embed_defs.specs.Lifting.{placement_of, lift}

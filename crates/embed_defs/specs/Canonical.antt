@@ -2,7 +2,7 @@
 use Rattle.std.specs.Prelude.{◌≡◌, ◌⊎◌, refl, ℕ, zero, suc, ◌+◌, ◌-◌, ◌/◌, ◌%◌, Bool, true, false, ◌&&◌, ◌||◌, nat_lt, nat_eq, List, [], ◌∷◌, ◌++◌, take, slice_index, if◌then◌else◌}
 use Rattle.tree_defs.specs.Tree.{Tree, leaf, inner, Trees, none, more, Address, root_of}
 use Rattle.tree_defs.specs.Topology.{Topology}
-use Rattle.target_defs.specs.Levels.{Arities}
+use Rattle.embed_defs.specs.Levels.{Arities}
 use Rattle.embed_defs.specs.Need.{leaves_below, AreNeedsOf}
 
 -- The digits that lead to leaf n below a node of height h. The last digit counts 1. Each other

@@ -1,7 +1,7 @@
 -- The number of the leaf that digits lead to.
 use Rattle.std.specs.Prelude.{◌≡◌, refl, ℕ, ◌+◌, ◌*◌, [], ◌∷◌, length}
 use Rattle.tree_defs.specs.Tree.{Address}
-use Rattle.target_defs.specs.Levels.{Arities}
+use Rattle.embed_defs.specs.Levels.{Arities}
 use Rattle.embed_defs.specs.Need.{leaves_below}
 
 -- The number of leaves before it. The last digit counts 1. Each other digit counts the leaves below

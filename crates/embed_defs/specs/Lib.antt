@@ -12,3 +12,8 @@ pub mod LiftLaws
 pub mod Spilling
 pub mod Preorder
 pub mod MapLaws
+pub mod Target
+pub mod Levels
+pub mod TargetLaws
+pub mod Family
+pub mod Spills

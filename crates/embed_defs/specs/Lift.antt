@@ -1,11 +1,11 @@
 -- The lift of a source tree (OOPSLA 2023): the queues of a complete tree that schedules as the
 -- source tree does.
 use Rattle.std.specs.Prelude.{◌≡◌, ◌≢◌, refl, ℕ, zero, suc, ◌-◌, ◌≤◌, List, [], ◌∷◌, ◌++◌, length, Option, Some, None, option_map, nat_eq, replicate, filter_map, slice_index, drop, if◌then◌else◌}
-use Rattle.pifo_defs.specs.Queue.{Queue}
+use Rattle.tree_defs.specs.Queue.{Queue}
 use Rattle.tree_defs.specs.Tree.{Tree, leaf, inner, Trees, none, more, Address, IsAddressOf, subtree, root_of}
 use Rattle.tree_defs.specs.Topology.{IsPrefixOf}
 use Rattle.tree_defs.specs.SourceTree.{SourceTree}
-use Rattle.target_defs.specs.Family.{Family}
+use Rattle.embed_defs.specs.Family.{Family}
 
 -- the digit of the first address that follows the second, if the second is a proper prefix of the
 -- first

@@ -3,9 +3,9 @@ use Rattle.std.specs.Prelude.{◌≡◌, ◌↔◌, ◌+◌, ◌<◌, ◌≤◌,
 use Rattle.tree_defs.specs.Tree.{Tree, Address, IsAddressOf, LeadsToLeaf, SameShape, Popping}
 use Rattle.tree_defs.specs.Topology.{Topology, complete}
 use Rattle.tree_defs.specs.SourceTree.{SourceTree, empty_tree, push, pop, IsWellFormed}
-use Rattle.target_defs.specs.Family.{Family, push_along, pop_along, IsEmpty, SameQueues}
-use Rattle.target_defs.specs.Spills.{spills_along}
-use Rattle.target_defs.specs.Levels.{Arities}
+use Rattle.embed_defs.specs.Family.{Family, push_along, pop_along, IsEmpty, SameQueues}
+use Rattle.embed_defs.specs.Spills.{spills_along}
+use Rattle.embed_defs.specs.Levels.{Arities}
 use Rattle.embed_defs.specs.Embedding.{IsEmbedding}
 use Rattle.embed_defs.specs.Need.{HasHeight}
 use Rattle.embed_defs.specs.Canonical.{IsCanonical}

@@ -1,10 +1,10 @@
 -- The lift as a function by recursion on a source tree and a placement together. Proofs use it.
 use Rattle.std.specs.Prelude.{◌≡◌, refl, ℕ, zero, suc, List, [], ◌∷◌, ◌++◌, length, Option, Some, None, option_map, unwrap_or, replicate, slice_index, drop}
-use Rattle.pifo_defs.specs.Queue.{Queue}
+use Rattle.tree_defs.specs.Queue.{Queue}
 use Rattle.tree_defs.specs.Tree.{Tree, leaf, inner, Trees, none, more, Address, Popping, root_of}
 use Rattle.tree_defs.specs.Topology.{after}
 use Rattle.tree_defs.specs.SourceTree.{pop}
-use Rattle.target_defs.specs.Family.{Family}
+use Rattle.embed_defs.specs.Family.{Family}
 use Rattle.embed_defs.specs.Placed.{Placement, Placements, part, lift_digits, digits_below}
 use Rattle.embed_defs.specs.Images.{image_map}
 use Rattle.embed_defs.specs.Lift.{digit_beyond, passing_by, StandsAt, with_transit}

@@ -3,8 +3,8 @@ use Rattle.std.proofs.Common.{lit≤, le→leb}
 use Rattle.std.specs.Prelude.{◌≡◌, refl, ℕ, suc, ◌+◌, ◌≤◌, List, [], ◌∷◌, sum_by, slice_index}
 use Rattle.tree_defs.specs.Tree.{Tree, leaf, inner, Trees, none, more, SameShape, root_of}
 use Rattle.tree_defs.specs.Topology.{Topology}
-use Rattle.target_defs.specs.Target.{leaves}
-use Rattle.target_defs.specs.Levels.{Arities, down_from}
+use Rattle.embed_defs.specs.Target.{leaves}
+use Rattle.embed_defs.specs.Levels.{Arities, down_from}
 
 -- the number has the property, and no lower number has it
 pub record IsLeast (P : ℕ → Type 0) (n : ℕ) : Type 0 where

@@ -2,8 +2,8 @@
 use Rattle.std.specs.Prelude.{◌≡◌, refl, ℕ, List, [], ◌∷◌}
 use Rattle.tree_defs.specs.Tree.{Tree, Address}
 use Rattle.tree_defs.specs.SourceTree.{SourceTree}
-use Rattle.target_defs.specs.Family.{Family}
-use Rattle.target_defs.specs.Spills.{spills_along}
+use Rattle.embed_defs.specs.Family.{Family}
+use Rattle.embed_defs.specs.Spills.{spills_along}
 use Rattle.embed_defs.specs.Images.{image_map}
 use Rattle.embed_defs.specs.Lift.{lift_ranks, with_transit}
 use Rattle.embed_defs.specs.Lifting.{placement_of, lift, tied}

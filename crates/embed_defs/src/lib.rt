@@ -1,11 +1,13 @@
-//! Definitions of how a topology is embedded in a complete tree: embeddings, needs, the canonical
-//! placement, the composition of maps, and the lift of a source tree along a map. Begin with
-//! specs/Embedding.antt.
+//! Definitions of targets, and of how a topology is embedded in one. A target is a complete tree with
+//! an arity for each level, with further levels above it and a queue at each node. Embeddings, needs,
+//! the canonical placement, the composition of maps, and the lift of a source tree along a map. Begin
+//! with specs/Target.antt and specs/Embedding.antt.
 #![tactic(auto)]
 
 mod laws;
 mod lift_laws;
 mod map_laws;
+mod target_laws;
 
 pub use laws::{
     canonical_placements_are_embeddings, canonical_placements_are_one, embeddings_need_room,
@@ -21,4 +23,7 @@ pub use lift_laws::{
 pub use map_laws::{
     embeddings_compose, trees_in_preorder_hold_the_images, trees_of_images_are_one,
     trees_of_images_embed,
+};
+pub use target_laws::{
+    all_levels_are_the_target, heights_are_in_range, heights_give_the_lowest_levels,
 };

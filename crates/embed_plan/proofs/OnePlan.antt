@@ -2,7 +2,7 @@
 use Rattle.std.proofs.Common.{◌≡◌, ℕ, Bool, List, length, ◌++◌, refl, ap, ◌∙◌}
 use Rattle.embed_defs.proofs.EmbeddingLaws.{topologies_have_one_need-holds, canonical_placements_are_one-holds}
 use Rattle.policy_defs.specs.Policy.{Policy}
-use Rattle.target_defs.specs.Levels.{levels}
+use Rattle.embed_defs.specs.Levels.{levels}
 use Rattle.tree_defs.specs.Topology.{topology_of}
 use Rattle.embed_plan.specs.Plan.{IsPlan, placed, no_room, least_line, map_lines}
 

@@ -5,8 +5,8 @@ use Rattle.embed_defs.specs.Images.{image_map}
 use Rattle.embed_defs.specs.Laws.{AreWide}
 use Rattle.embed_defs.proofs.EmbeddingLaws.{topologies_have_one_need-holds}
 use Rattle.embed_defs.proofs.RoomOrNone.{there_or_none}
-use Rattle.target_defs.specs.Levels.{levels, down_from}
-use Rattle.target_defs.proofs.LevelLaws.{heights_give-holds, heights_in_range-holds}
+use Rattle.embed_defs.specs.Levels.{levels, down_from}
+use Rattle.embed_defs.proofs.LevelLaws.{heights_give-holds, heights_in_range-holds}
 use Rattle.tree_defs.specs.Topology.{topology_of, complete}
 use Rattle.embed_plan.specs.Plan.{placed, no_room, least_line, map_lines}
 use Rattle.embed_plan.specs.Laws.{PoliciesHaveAPlan}

@@ -1,6 +1,6 @@
 -- Consequences of the definition of a plan.
 use Rattle.std.specs.Prelude.{◌≡◌, ℕ, Bool, List}
-use Rattle.target_defs.specs.Target.{IsInRange}
+use Rattle.embed_defs.specs.Target.{IsInRange}
 use Rattle.policy_defs.specs.Policy.{Policy}
 use Rattle.embed_plan.specs.Plan.{IsPlan}
 

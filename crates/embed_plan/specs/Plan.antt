@@ -5,13 +5,13 @@ use Rattle.std.specs.List.{concat, join_with_byte}
 use Rattle.std.specs.Fmt.{digits}
 use Rattle.tree_defs.specs.Tree.{Tree, leaf, Address}
 use Rattle.tree_defs.specs.Topology.{topology_of, complete}
-use Rattle.target_defs.specs.Levels.{levels}
+use Rattle.embed_defs.specs.Levels.{levels}
 use Rattle.embed_defs.specs.Embedding.{HasEmbedding}
 use Rattle.embed_defs.specs.Need.{IsNeed}
 use Rattle.embed_defs.specs.Canonical.{IsCanonical}
 use Rattle.embed_defs.specs.Images.{image_map}
 use Rattle.policy_defs.specs.Policy.{Policy, name_at, one_leaf}
-use Rattle.report_defs.specs.Report.{line_of}
+use Rattle.outside_core.specs.Report.{line_of}
 use Rattle.embed_plan.specs.Preorder.{addresses}
 
 -- an address as text: its digits joined by dots, or a hyphen for the root

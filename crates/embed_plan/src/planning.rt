@@ -1,6 +1,6 @@
 //! The plan of a policy for a target.
 ghost use Rattle.std.specs.Prelude.{◌≡◌, ◌++◌, IfOk, OnOk};
-ghost use Rattle.target_defs.specs.Target.{IsInRange};
+ghost use Rattle.embed_defs.specs.Target.{IsInRange};
 ghost use Rattle.embed_plan.specs.Plan.{IsPlan, map_lines};
 
 use crate::lines::{put_least, put_map};

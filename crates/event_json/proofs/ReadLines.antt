@@ -7,7 +7,7 @@ use Rattle.std.proofs.lemmas.List.Folds.{list_all-append}
 use Rattle.std.specs.List.{list_all, AllByRecursion}
 use Rattle.std.specs.Char.{is_ascii_digit}
 use Rattle.text_core.specs.Tokens.{is_word_byte}
-use Rattle.report_defs.specs.Report.{line_of, ranks_text}
+use Rattle.outside_core.specs.Report.{line_of, ranks_text}
 use Rattle.event_json.specs.Objects.{numbers_text}
 use Rattle.event_json.specs.ReadBack.{leading, past_colon, after_colons, number_at, is_no_quote, text_at, is_no_bracket, slash_for_comma}
 use Rattle.event_json.specs.Laws.{Is64}

@@ -2,7 +2,7 @@
 use Rattle.std.proofs.Common.{◌≡◌, ◌<◌, ◌^◌, ◌+◌, ◌%◌, ℕ, Option, None, Some, List, [], ◌∷◌, ◌++◌, decimal, codes, refl, ap, ◌∙◌, arith, append_assoc}
 use Rattle.std.proofs.lemmas.Fmt.{decimal_by_steps_wide}
 use Rattle.std.specs.Char.{is_ascii_digit}
-use Rattle.report_defs.specs.Report.{line_of, ranks_text, start_words}
+use Rattle.outside_core.specs.Report.{line_of, ranks_text, start_words}
 use Rattle.packet_defs.specs.declared.packet.Packet.{Packet}
 use Rattle.policy_defs.specs.Policy.{Policy, name_at}
 use Rattle.tree_defs.specs.Tree.{Address}

@@ -3,7 +3,7 @@
 use Rattle.std.specs.Prelude.{◌≡◌, refl, ℕ, zero, suc, ◌==◌, Bool, not, if◌then◌else◌, List, [], ◌∷◌, map, drop, codes}
 use Rattle.std.specs.Char.{is_ascii_digit}
 use Rattle.std.specs.Str.{bytes_eq}
-use Rattle.report_defs.specs.Report.{line_of}
+use Rattle.outside_core.specs.Report.{line_of}
 
 -- the bytes before the first one that fails a test
 abbrev pub leading : (ℕ → Bool) → List ℕ → List ℕ

@@ -3,7 +3,7 @@ use Rattle.std.proofs.Common.{◌≡◌, ℕ, ◌+◌, ◌*◌, ◌<◌, ◌≤�
 use Rattle.std.proofs.lemmas.Nat.{mul-add-lt}
 use Rattle.std.proofs.lemmas.Bool.{cases_Bool, lt-ltb, le-ltb}
 use Rattle.std.proofs.Math.Nat.{mul-le-mul_left}
-use Rattle.target_defs.specs.Family.{Address}
+use Rattle.embed_defs.specs.Family.{Address}
 use Rattle.fabric_core.specs.Array.{nodes, read}
 
 pub read-below : {A : Type 0} (ar : List ℕ) (items : List A) (none : A) (d begin width place x : ℕ) (b : Address) → x < d

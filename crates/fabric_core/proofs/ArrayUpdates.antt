@@ -3,7 +3,7 @@ use Rattle.std.proofs.Common.{◌≡◌, ℕ, zero, suc, ◌<◌, List, map, [],
 use Rattle.std.proofs.lemmas.List.{map-set, get_or-map, length-map}
 use Rattle.std.proofs.Math.Seq.{map-set_same}
 use Rattle.std.specs.List.{AllByRecursion}
-use Rattle.pifo_defs.specs.Queue.{Queue, put}
+use Rattle.tree_defs.specs.Queue.{Queue, put}
 use Rattle.fabric_core.specs.declared.node.NodeQueue.{Ghosts}
 use Rattle.fabric_core.specs.Array.{put_at}
 

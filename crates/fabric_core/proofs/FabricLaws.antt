@@ -4,9 +4,9 @@ use Rattle.std.proofs.Common.{◌≡◌, ℕ, zero, suc, ◌+◌, ◌<◌, ◌�
 use Rattle.std.specs.List.{AllByRecursion}
 use Rattle.std.proofs.lemmas.List.{get_or-map, length-map}
 use mathlib.Core.Path.{fun_ext}
-use Rattle.pifo_defs.specs.Queue.{Queue}
+use Rattle.tree_defs.specs.Queue.{Queue}
 use Rattle.tree_defs.specs.SourceTree.{times}
-use Rattle.target_defs.specs.Family.{Family, IsEmpty, IsLeafAddress, SameQueues, Pops, below, push_along}
+use Rattle.embed_defs.specs.Family.{Family, IsEmpty, IsLeafAddress, SameQueues, Pops, below, push_along}
 use Rattle.fabric_core.specs.Array.{nodes, queues_at, array_push, array_pop}
 use Rattle.fabric_core.specs.Flow.{NamesBelow, IsFlow, IsSound}
 use Rattle.fabric_core.proofs.ArrayReads.{read-none, read-root, some_nodes}

@@ -3,13 +3,13 @@ use Rattle.std.proofs.Common.{◌≡◌, ◌≢◌, ℕ, zero, suc, ◌+◌, ◌
 use Rattle.std.specs.Prelude.{slice_index, option_map}
 use Rattle.std.proofs.lemmas.Bool.{cases_Bool, cases_lt, eqb-true, eqb-false, eq-eqb, ne_eqb}
 use mathlib.Core.Path.{fun_ext}
-use Rattle.pifo_defs.specs.Queue.{Queue, Taking, put, take_from, take_least}
-use Rattle.pifo_defs.proofs.TakeLeast.{take_from-front, take_from-behind, length-put, length-rest}
+use Rattle.tree_defs.specs.Queue.{Queue, Taking, put, take_from, take_least}
+use Rattle.tree_defs.proofs.TakeLeast.{take_from-front, take_from-behind, length-put, length-rest}
 use Rattle.tree_defs.specs.Tree.{Popping}
 use Rattle.tree_defs.specs.SourceTree.{times}
 use Rattle.tree_defs.proofs.Options.{option_map-some, option_bind-some}
 use Rattle.tree_defs.proofs.WellFormedLaws.{times-put_same, times-put_other, times-taken_same, times-taken_other}
-use Rattle.target_defs.specs.Family.{Address, Family, below, push_along, pop_along, popped_last, popped_digit, with_branch, IsLeafAddress}
+use Rattle.embed_defs.specs.Family.{Address, Family, below, push_along, pop_along, popped_last, popped_digit, with_branch, IsLeafAddress}
 use Rattle.fabric_core.specs.Flow.{NamesBelow, IsFlow}
 use Rattle.fabric_core.proofs.PushLaws.{push_along-same, push_along-other}
 

@@ -4,7 +4,7 @@ use Rattle.std.proofs.lemmas.List.{drop_more, drop_all, map-append, length-map, 
 use Rattle.std.proofs.Math.Seq.{get_or-append_seam}
 use Rattle.std.specs.List.{AllByRecursion}
 use mathlib.Core.Path.{fun_ext}
-use Rattle.target_defs.specs.Family.{Address}
+use Rattle.embed_defs.specs.Family.{Address}
 use Rattle.fabric_core.specs.Array.{flows_at}
 use Rattle.fabric_core.specs.Flow.{HasFlows}
 use Rattle.fabric_core.proofs.ArrayReads.{read-below, child_place}

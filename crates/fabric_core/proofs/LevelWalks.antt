@@ -2,7 +2,7 @@
 use Rattle.std.proofs.Common.{◌≡◌, ℕ, zero, suc, ◌+◌, ◌*◌, ◌<◌, ◌≤◌, List, [], ◌∷◌, length, get_or, drop, refl, sym, ap, subst, ◌∙◌, arith}
 use Rattle.std.proofs.lemmas.List.{drop_more}
 use Rattle.std.proofs.Math.Nat.{mul-le-mul_left}
-use Rattle.target_defs.specs.Family.{IsLeafAddress}
+use Rattle.embed_defs.specs.Family.{IsLeafAddress}
 use Rattle.fabric_core.specs.Array.{nodes}
 use Rattle.fabric_core.proofs.ArrayReads.{child_place, next_nodes, place_within, some_nodes}
 

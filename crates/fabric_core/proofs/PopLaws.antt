@@ -4,10 +4,10 @@ use Rattle.std.specs.Prelude.{option_map}
 use Rattle.std.proofs.lemmas.Nat.{same_from_place}
 use Rattle.std.proofs.lemmas.Bool.{cases_Bool, cases_lt, eqb-true, eqb-false}
 use mathlib.Core.Path.{fun_ext}
-use Rattle.pifo_defs.specs.Queue.{Queue, Taking, take_least}
+use Rattle.tree_defs.specs.Queue.{Queue, Taking, take_least}
 use Rattle.tree_defs.specs.Tree.{Popping, option_bind}
 use Rattle.tree_defs.proofs.Options.{option_map-some, option_bind-some}
-use Rattle.target_defs.specs.Family.{Address, Family, Pops, below, pop_along, popped_last, popped_digit, with_root, with_branch}
+use Rattle.embed_defs.specs.Family.{Address, Family, Pops, below, pop_along, popped_last, popped_digit, with_root, with_branch}
 use Rattle.fabric_core.specs.Array.{nodes, queues_at, of_last, of_digit, array_pop}
 use Rattle.fabric_core.specs.Flow.{IsFlow}
 use Rattle.fabric_core.proofs.ArrayReads.{read-below, read-outside, read-same, child_place, next_nodes, place_within}

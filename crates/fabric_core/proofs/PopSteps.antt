@@ -3,12 +3,12 @@ use Rattle.std.proofs.Common.{◌≡◌, ◌≢◌, ℕ, ◌+◌, ◌*◌, ◌<�
 use Rattle.std.specs.Prelude.{option_map}
 use Rattle.std.proofs.lemmas.List.{drop_more, drop_all, take_all, take_more_set, append_assoc, append-nil}
 use Rattle.std.proofs.Math.Seq.{map-set_same}
-use Rattle.pifo_defs.specs.Queue.{Queue, Taking, take_least}
+use Rattle.tree_defs.specs.Queue.{Queue, Taking, take_least}
 use Rattle.tree_defs.specs.Tree.{Popping, option_bind}
 use Rattle.fabric_core.specs.declared.node.NodeQueue.{Ghosts}
 use Rattle.fabric_core.specs.Array.{nodes, queues_at, of_last, of_digit, array_pop}
 use Rattle.fabric_core.specs.Flow.{IsFlow}
-use Rattle.target_defs.specs.Family.{Family}
+use Rattle.embed_defs.specs.Family.{Family}
 use Rattle.fabric_core.proofs.ArrayReads.{read-root}
 use Rattle.fabric_core.proofs.FlowLaws.{names-taken, child-waits}
 use Rattle.fabric_core.proofs.PopLaws.{queues-child, flow-child}

@@ -5,8 +5,8 @@ use Rattle.std.specs.Prelude.{slice_index, nat_eq, if◌then◌else◌}
 use Rattle.std.proofs.lemmas.Nat.{same_from_place}
 use Rattle.std.proofs.lemmas.Bool.{cases_Bool, cases_lt, eqb-true, eqb-false, eq-eqb, ne_eqb}
 use mathlib.Core.Path.{fun_ext}
-use Rattle.pifo_defs.specs.Queue.{Queue, put}
-use Rattle.target_defs.specs.Family.{Address, Family, below, push_along, less_room_along, IsLeafAddress}
+use Rattle.tree_defs.specs.Queue.{Queue, put}
+use Rattle.embed_defs.specs.Family.{Address, Family, below, push_along, less_room_along, IsLeafAddress}
 use Rattle.fabric_core.specs.Array.{nodes, read, queues_at, room_at, array_push}
 use Rattle.fabric_core.proofs.ArrayReads.{read-below, read-outside, read-same, child_place, next_nodes, place_within}
 

@@ -3,9 +3,9 @@ use Rattle.std.proofs.Common.{◌≡◌, ℕ, ◌+◌, ◌*◌, ◌^◌, ◌<◌
 use Rattle.std.proofs.lemmas.List.{drop_more, drop_all, get_or-drop}
 use Rattle.std.specs.List.{AllByRecursion}
 use mathlib.Core.Path.{fun_ext}
-use Rattle.pifo_defs.specs.Queue.{Queue, put}
+use Rattle.tree_defs.specs.Queue.{Queue, put}
 use Rattle.fabric_core.specs.declared.node.NodeQueue.{Ghosts}
-use Rattle.target_defs.specs.Family.{Address, IsLeafAddress, HasRoomAlong}
+use Rattle.embed_defs.specs.Family.{Address, IsLeafAddress, HasRoomAlong}
 use Rattle.fabric_core.specs.Array.{nodes, room_at, put_at, array_push}
 use Rattle.fabric_core.proofs.ArrayReads.{read-below, read-same}
 use Rattle.fabric_core.proofs.LevelWalks.{IsAt, at_index, at_child, placed_as, leaf_length, digit_below}

@@ -4,7 +4,7 @@ use Rattle.std.proofs.lemmas.List.{drop_more, drop_all}
 use Rattle.std.proofs.lemmas.Bool.{cases_Bool, eqb-true, eqb-false}
 use mathlib.Core.Path.{fun_ext}
 use Rattle.fabric_core.specs.declared.node.NodeQueue.{Ghosts}
-use Rattle.target_defs.specs.Family.{Address, IsLeafAddress, HasRoomAlong}
+use Rattle.embed_defs.specs.Family.{Address, IsLeafAddress, HasRoomAlong}
 use Rattle.fabric_core.specs.Array.{room_at}
 use Rattle.fabric_core.proofs.ArrayReads.{read-below}
 use Rattle.fabric_core.proofs.LevelWalks.{leaf_length, digit_below}

@@ -2,7 +2,7 @@
 use Rattle.std.proofs.Common.{◌≡◌, ℕ, ◌+◌, ◌*◌, ◌-◌, ◌<◌, ◌≤◌, ltb, eqb, List, [], ◌∷◌, length, map, get_or, set, drop, refl, sym, ap, subst, ◌∙◌, arith, inl, inr, get_or-set_same, get_or-set_other}
 use Rattle.std.proofs.lemmas.Bool.{cases_Bool, eqb-true, eqb-false}
 use Rattle.std.proofs.lemmas.List.{drop_more, drop_all}
-use Rattle.target_defs.specs.Family.{Address, IsLeafAddress}
+use Rattle.embed_defs.specs.Family.{Address, IsLeafAddress}
 use Rattle.fabric_core.specs.declared.node.NodeQueue.{Ghosts}
 use Rattle.fabric_core.specs.Array.{nodes, room_at, ArrayKeepsRoom, ArrayTakesRoom}
 use Rattle.fabric_core.proofs.ArrayUpdates.{spare-at, spare-set, length-spare}

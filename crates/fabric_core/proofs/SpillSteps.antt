@@ -4,9 +4,9 @@ use Rattle.std.proofs.lemmas.List.{drop_more, drop_all, get_or-drop, get_or-map,
 use Rattle.std.proofs.Math.Seq.{map-set_same}
 use Rattle.std.specs.Int.{from_bool}
 use mathlib.Core.Path.{fun_ext}
-use Rattle.pifo_defs.specs.Queue.{Queue}
-use Rattle.target_defs.specs.Family.{Address, Family, IsLeafAddress}
-use Rattle.target_defs.specs.Spills.{spills_for, spills_at_leaf, spills_along, counted}
+use Rattle.tree_defs.specs.Queue.{Queue}
+use Rattle.embed_defs.specs.Family.{Address, Family, IsLeafAddress}
+use Rattle.embed_defs.specs.Spills.{spills_for, spills_at_leaf, spills_along, counted}
 use Rattle.fabric_core.specs.declared.node.NodeQueue.{Ghosts}
 use Rattle.fabric_core.specs.Array.{queues_at, flows_at}
 use Rattle.fabric_core.specs.Flow.{NamesBelow, IsFlow, HasFlows}

@@ -2,9 +2,9 @@
 -- `place` of its level, and let d be the level's arity. Its child x is at index `place` * d + x of
 -- the next level.
 use Rattle.std.specs.Prelude.{◌≡◌, refl, ℕ, ◌+◌, ◌*◌, List, [], ◌∷◌, Option, Some, None, option_map, nat_lt, slice_index, slice_index_or, slice_set, drop, if◌then◌else◌}
-use Rattle.pifo_defs.specs.Queue.{Queue, Taking, put, take_least}
+use Rattle.tree_defs.specs.Queue.{Queue, Taking, put, take_least}
 use Rattle.tree_defs.specs.Tree.{Popping, option_bind}
-use Rattle.target_defs.specs.Family.{Address, Family, SameRoom, HasNoLessRoom, less_room_along}
+use Rattle.embed_defs.specs.Family.{Address, Family, SameRoom, HasNoLessRoom, less_room_along}
 
 -- the number of nodes of the complete tree of these arities
 abbrev pub nodes : List ℕ → ℕ

@@ -1,8 +1,8 @@
 -- The contents of a flat fabric.
 use Rattle.std.specs.Prelude.{ℕ, ◌≡◌, [], List, map}
-use Rattle.pifo_defs.specs.Queue.{Queue}
+use Rattle.tree_defs.specs.Queue.{Queue}
 use Rattle.pifo_core.specs.Sorted.{Contents}
-use Rattle.target_defs.specs.Family.{Address, Family, IsEmpty}
+use Rattle.embed_defs.specs.Family.{Address, Family, IsEmpty}
 use Rattle.fabric_core.specs.Array.{queues_at, room_at}
 
 -- the state that contracts refer to

@@ -2,9 +2,9 @@
 use Rattle.std.proofs.Common.{lit<}
 use Rattle.std.specs.Prelude.{ℕ, zero, suc, ◌≡◌, refl, ◌≤◌, ◌<◌, ◌^◌, List, [], ◌∷◌, length, map, nat_eq, if◌then◌else◌}
 use Rattle.std.specs.List.{AllByRecursion}
-use Rattle.pifo_defs.specs.Queue.{Queue}
+use Rattle.tree_defs.specs.Queue.{Queue}
 use Rattle.tree_defs.specs.SourceTree.{times}
-use Rattle.target_defs.specs.Family.{Address, Family, below}
+use Rattle.embed_defs.specs.Family.{Address, Family, below}
 use Rattle.fabric_core.specs.Array.{nodes, queues_at}
 
 -- each value is a child's digit

@@ -1,8 +1,8 @@
 //! The trait of the hardware's queues: a complete tree that is configured, pushed and popped.
 ghost use Rattle.std.specs.Prelude.{◌≡◌, ◌+◌, ◌^◌, ◌<◌, ◌↔◌, ℕ, List, Option, [], length, option_map, OnOk, OnErr, IsNone, IfNone, IfSome};
-ghost use Rattle.target_defs.specs.Family.{Address, Family, SameQueues, IsEmpty, IsLeafAddress, HasRoomAlong, SameRoom, HasNoLessRoom, less_room_along, AreRanks, Pops, push_along, PopsFrom};
-ghost use Rattle.target_defs.specs.Spills.{spills_along};
-ghost use Rattle.target_defs.specs.Target.{IsTarget};
+ghost use Rattle.embed_defs.specs.Family.{Address, Family, SameQueues, IsEmpty, IsLeafAddress, HasRoomAlong, SameRoom, HasNoLessRoom, less_room_along, AreRanks, Pops, push_along, PopsFrom};
+ghost use Rattle.embed_defs.specs.Spills.{spills_along};
+ghost use Rattle.embed_defs.specs.Target.{IsTarget};
 
 use std::alloc::AllocError;
 

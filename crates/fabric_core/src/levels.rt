@@ -1,7 +1,7 @@
 //! Makes the queues of a complete tree, level by level.
 ghost use Rattle.std.specs.Prelude.{◌≡◌, ◌≤◌, ◌<◌, ◌+◌, ◌^◌, ℕ, true, [], length, map, slice_index_or, IfOk, OnOk};
 ghost use Rattle.std.specs.List.{AllByRecursion};
-ghost use Rattle.target_defs.specs.Target.{IsTarget};
+ghost use Rattle.embed_defs.specs.Target.{IsTarget};
 ghost use Rattle.fabric_core.specs.Array.{nodes, flows_at};
 ghost use Rattle.fabric_core.specs.Flow.{HasFlows};
 

@@ -1,8 +1,8 @@
 //! The trait of a node's queue.
 ghost use Rattle.std.specs.Prelude.{◌≡◌, ◌+◌, ◌^◌, ◌<◌, ◌≤◌, ◌↔◌, ℕ, Bool, true, [], OnOk, IfOk};
-ghost use Rattle.pifo_defs.specs.Queue.{Queue, put};
+ghost use Rattle.tree_defs.specs.Queue.{Queue, put};
 ghost use Rattle.pifo_core.specs.Taking.{Pops};
-ghost use Rattle.target_defs.specs.Spills.{spills_for, spills_at_leaf};
+ghost use Rattle.embed_defs.specs.Spills.{spills_for, spills_at_leaf};
 ghost use Rattle.fabric_core.specs.Flow.{NamesBelow};
 
 use pifo_core::{HeapPifo, Pifo};

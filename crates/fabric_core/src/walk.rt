@@ -1,8 +1,8 @@
 //! Walks from the root of a complete tree of queues to a leaf.
 ghost use Rattle.std.specs.Prelude.{ℕ, ◌≡◌, ◌≢◌, ◌≤◌, ◌<◌, ◌+◌, ◌^◌, [], Some, length, map, OnOk};
 ghost use Rattle.std.specs.List.{AllByRecursion};
-ghost use Rattle.target_defs.specs.Family.{IsLeafAddress, HasRoomAlong};
-ghost use Rattle.target_defs.specs.Spills.{spills_along};
+ghost use Rattle.embed_defs.specs.Family.{IsLeafAddress, HasRoomAlong};
+ghost use Rattle.embed_defs.specs.Spills.{spills_along};
 ghost use Rattle.fabric_core.specs.Array.{nodes, queues_at, room_at, flows_at, array_push, ArrayPops, ArrayKeepsRoom, ArrayTakesRoom};
 ghost use Rattle.fabric_core.specs.Flow.{IsFlow, HasFlows};
 ghost use Rattle.pifo_core.specs.Taking.{Pops};

@@ -1,5 +1,5 @@
 //! What a policy needs of a target that has no room for it.
-ghost use Rattle.target_defs.specs.Target.{IsInRange};
+ghost use Rattle.embed_defs.specs.Target.{IsInRange};
 
 use embed_core::{Target, least_height};
 use policy_core::{Policy, resolve};

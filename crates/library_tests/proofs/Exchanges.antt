@@ -5,12 +5,12 @@ use Rattle.std.specs.Prelude.{IsSomeAnd, nat_eq, max, if◌then◌else◌}
 use Rattle.std.specs.List.{AllByRecursion}
 use Rattle.std.proofs.lemmas.Bool.Decides.{Decides-eqb}
 use Rattle.tree_defs.specs.Tree.{Tree, leaf, inner, none, more, Address, LeadsToLeaf, IsAddressOf, SameShape, depth, subtree}
-use Rattle.pifo_defs.specs.Queue.{Queue}
+use Rattle.tree_defs.specs.Queue.{Queue}
 use Rattle.tree_defs.specs.Topology.{Topology, topology_of}
 use Rattle.tree_defs.specs.SourceTree.{size}
 use Rattle.tree_defs.specs.Packets.{queue_at}
 use Rattle.tree_defs.proofs.WellFormedLaws.{size-empty}
-use Rattle.target_defs.specs.Levels.{Arities}
+use Rattle.embed_defs.specs.Levels.{Arities}
 use Rattle.embed_defs.specs.Canonical.{canonical, IsCanonical}
 use Rattle.rank_defs.specs.declared.transaction.Span.{Span}
 use Rattle.rank_defs.specs.States.{State, SameState}

@@ -1,7 +1,7 @@
 //! A test that lifts paths along the canonical map, and picks them back.
 ghost use Rattle.std.specs.Prelude.{◌≡◌, ◌+◌, ◌≤◌, length, IfOk};
 ghost use Rattle.tree_defs.specs.Tree.{depth, LeadsToLeaf, SameShape};
-ghost use Rattle.target_defs.specs.Target.{IsInRange};
+ghost use Rattle.embed_defs.specs.Target.{IsInRange};
 ghost use Rattle.tree_core.specs.Shape.{topology};
 ghost use Rattle.tree_core.specs.Paths.{digits as digits_on, digits_of};
 ghost use Rattle.embed_defs.specs.GoodMaps.{IsGoodMap};

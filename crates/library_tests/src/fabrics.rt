@@ -2,7 +2,7 @@
 ghost use Rattle.std.specs.Prelude.{◌≡◌, ◌≤◌, [], ◌∷◌, length, ℕ, false, None, IfOk, IsSomeAnd, IsFalse, IsTrue, OnOk};
 ghost use Rattle.tree_defs.specs.Tree.{depth};
 ghost use Rattle.tree_defs.specs.Topology.{topology_of};
-ghost use Rattle.target_defs.specs.Target.{IsInRange};
+ghost use Rattle.embed_defs.specs.Target.{IsInRange};
 ghost use Rattle.embed_defs.specs.Canonical.{IsCanonical};
 ghost use Rattle.policy_defs.specs.Policy.{node_at};
 ghost use Rattle.policy_defs.specs.Accepted.{IsAccepted};

@@ -2,7 +2,7 @@
 use outside_core::{MemShelf, ReadError};
 use policy_core::{Policy, resolve};
 use policy_text::parse;
-use sched_packets::{CapturePackets, Packets, SingleLinkType};
+use sched_capture::{CapturePackets, Packets, SingleLinkType};
 use std::alloc::{AllocError, Global};
 use std::test::Fail;
 

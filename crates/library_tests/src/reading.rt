@@ -2,8 +2,8 @@
 ghost use Rattle.std.specs.Prelude.{◌≤◌, IfOk, IsTrue};
 ghost use Rattle.outside_core.specs.Memory.{is_begun};
 
-use capture_core::{CaptureReader, Window};
 use outside_core::{MemShelf, ReadError, Shelf};
+use pcap_core::{CaptureReader, Window};
 use std::alloc::Global;
 use std::test::Fail;
 

@@ -2,3 +2,5 @@ mod StoredLemmas
 pub mod WrittenLaws
 pub mod KeptLaws
 pub mod FaultLaws
+pub mod Joined
+mod Refused

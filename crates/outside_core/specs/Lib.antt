@@ -9,3 +9,5 @@ pub mod Memory
 pub mod Plain
 pub mod Reading
 pub mod System
+pub mod Report
+pub mod Text

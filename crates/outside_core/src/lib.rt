@@ -1,4 +1,5 @@
-//! Named files to read, a sink to write, and a fault count for each.
+//! Named files to read, a sink to write, and a fault count for each. Also definitions for a text that
+//! is written in parts, and the lines of a report.
 #![tactic(auto)]
 
 mod faults;

@@ -10,13 +10,13 @@ use Rattle.pcap_defs.specs.Reading.{capture_of, records_left, with_first}
 use Rattle.pcap_defs.specs.Packet.{packet_with}
 use Rattle.pcap_defs.specs.Contents.{FaultAt, no_capture, fault_at, in_capture}
 use Rattle.pcap_defs.proofs.ReadingLaws.{capture_of-header, capture_of-fault, records_left-nothing, records_left-fault, records_left-record}
-use Rattle.capture_core.specs.Rest.{IsWhole, LeavesNothing}
-use Rattle.capture_core.specs.Captures.{packet_of, fault_told, Opens, Comes, IsOneLess, IsAt, LeavesNone}
-use Rattle.capture_core.specs.declared.frame.LinkedFrame.{LinkedFrame}
+use Rattle.pcap_core.specs.Rest.{IsWhole, LeavesNothing}
+use Rattle.pcap_core.specs.Captures.{packet_of, fault_told, Opens, Comes, IsOneLess, IsAt, LeavesNone}
+use Rattle.pcap_core.specs.declared.frame.LinkedFrame.{LinkedFrame}
 use Rattle.pcap_core.specs.Faults.{fault_in, read_error_as}
 use Rattle.pcap_core.specs.Frames.{IsFrameOf}
 use Rattle.pcap_core.specs.Left.{head_read, contents_in}
-use Rattle.pcap_core.specs.Rest.{TakesHeader, TakesRecord}
+use Rattle.pcap_core.specs.Pieces.{TakesHeader, TakesRecord}
 use Rattle.pcap_core.specs.declared.fault.CaptureFault.{CaptureFault}
 use Rattle.pcap_core.specs.declared.fault.CaptureFault.TheVariants.{HeaderCut, BadMagic, PcapNg, Version, RecordCut, DataCut, RecordLong, TooMany, ReadFault, NoMemory}
 

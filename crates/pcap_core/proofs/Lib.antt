@@ -2,3 +2,6 @@ pub mod Records
 pub mod Readings
 pub mod CapturesLeft
 pub mod BytesLaws
+pub mod Windows
+pub mod Takes
+pub mod Holds

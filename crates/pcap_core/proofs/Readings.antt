@@ -7,8 +7,8 @@ use Rattle.pcap_defs.specs.Header.{IsHeaderFault}
 use Rattle.pcap_defs.specs.Record.{Record, IsRecordFault, most_records}
 use Rattle.pcap_defs.specs.Reading.{packets, refused, records_left, with_first, capture_of}
 use Rattle.pcap_defs.proofs.ReadingLaws.{records_left-nothing, records_left-fault, records_left-record, capture_of-header, capture_of-fault}
-use Rattle.capture_core.specs.Rest.{IsWhole}
-use Rattle.pcap_core.specs.Rest.{TakesHeader, TakesRecord}
+use Rattle.pcap_core.specs.Rest.{IsWhole}
+use Rattle.pcap_core.specs.Pieces.{TakesHeader, TakesRecord}
 
 -- if a header was read, the capture has its values and the records left after it
 pub capture-header : (head : Head) (old new : Option (List ℕ)) (file : List ℕ) → TakesHeader head old new → old ≡ Some file

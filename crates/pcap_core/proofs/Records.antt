@@ -12,10 +12,10 @@ use Rattle.pcap_defs.specs.Reading.{head_of as head_in_file}
 use Rattle.pcap_defs.proofs.Numbers.{number_at-append}
 use Rattle.pcap_defs.proofs.Headers.{head_of-header, head_of-fault}
 use Rattle.pcap_defs.proofs.FrontTests.{front_of-spelled, front_of-fault}
-use Rattle.capture_core.specs.Rest.{TakesFront, IsWhole, LeavesNothing, IsShort}
-use Rattle.capture_core.specs.Passed.{Passes, IsAll}
+use Rattle.pcap_core.specs.Rest.{TakesFront, IsWhole, LeavesNothing, IsShort}
+use Rattle.pcap_core.specs.Passed.{Passes, IsAll}
 use Rattle.pcap_core.specs.declared.record_header.RecordHeader.{RecordHeader}
-use Rattle.pcap_core.specs.Rest.{TakesHeader, TakesPreface, TakesRecord}
+use Rattle.pcap_core.specs.Pieces.{TakesHeader, TakesPreface, TakesRecord}
 use Rattle.pcap_core.specs.Frames.{IsFrameOf, IsFrontFault}
 
 -- if nothing could be taken, nothing was left

@@ -4,7 +4,7 @@ use Rattle.pcap_defs.specs.declared.head.Head.{Head}
 use Rattle.pcap_defs.specs.Fault.{Fault, data_cut}
 use Rattle.pcap_defs.specs.Number.{long_at}
 use Rattle.pcap_defs.specs.Record.{Record, moment, moment_at, captured_len, record_len, IsRecordFault}
-use Rattle.capture_core.specs.declared.frame.Frame.{Frame}
+use Rattle.pcap_core.specs.declared.frame.Frame.{Frame}
 use Rattle.pcap_core.specs.declared.record_header.RecordHeader.{RecordHeader}
 
 -- The frame belongs to the record, and these are its captured bytes.

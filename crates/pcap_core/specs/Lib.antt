@@ -1,7 +1,13 @@
 pub mod Faults
-pub mod Rest
+pub mod Pieces
 pub mod Frames
 pub mod Readers
 pub mod Left
 pub mod Bytes
 pub mod Laws
+pub mod Limits
+pub mod Held
+pub mod Rest
+pub mod Passed
+pub mod Captures
+pub mod Rows

@@ -2,8 +2,8 @@
 use Rattle.std.specs.Prelude.{◌≡◌, ℕ, Bool, true, false, Option, None, List}
 use Rattle.std.specs.Option.{option_map_or}
 use Rattle.pcap_defs.specs.declared.head.Head.{Head}
-use Rattle.capture_core.specs.Held.{held, bytes_taken}
-use Rattle.capture_core.specs.Rest.{rest_of}
+use Rattle.pcap_core.specs.Held.{held, bytes_taken}
+use Rattle.pcap_core.specs.Rest.{rest_of}
 use Rattle.pcap_core.specs.declared.reader.Reader.{Reader}
 
 -- the header values, once the header is read

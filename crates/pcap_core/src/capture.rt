@@ -2,9 +2,11 @@
 ghost use Rattle.std.specs.Prelude.{◌≡◌};
 ghost use Rattle.pcap_core.specs.Faults.{read_error_as};
 
+use crate::capture_reader::CaptureReader;
 use crate::fault::CaptureFault;
+use crate::frame::LinkedFrame;
 use crate::reader::Reader;
-use capture_core::{CaptureReader, LinkedFrame, Window};
+use crate::window::Window;
 use outside_core::{ReadError, Shelf};
 use std::alloc::Global;
 

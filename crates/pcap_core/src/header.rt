@@ -5,7 +5,7 @@ ghost use Rattle.pcap_defs.specs.Header.{HasMagic, IsHeader, IsHeaderFault, magi
 ghost use Rattle.pcap_core.specs.Faults.{fault_in};
 
 use crate::fault::CaptureFault;
-use capture_core::{read_long, read_short};
+use crate::number::{read_long, read_short};
 use pcap_defs::Head;
 
 /// The length of a file header in bytes.

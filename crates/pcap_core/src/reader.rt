@@ -7,14 +7,15 @@ ghost use Rattle.pcap_defs.specs.Header.{IsHeaderFault};
 ghost use Rattle.pcap_defs.specs.Record.{Record, IsRecordFault, most_captured, most_records};
 ghost use Rattle.pcap_core.specs.Faults.{fault_in};
 ghost use Rattle.pcap_core.specs.Frames.{IsFrameOf};
-ghost use Rattle.capture_core.specs.Held.{held, bytes_taken};
-ghost use Rattle.capture_core.specs.Rest.{rest_of, IsWhole, LeavesNothing, Serves};
-ghost use Rattle.pcap_core.specs.Rest.{TakesHeader, TakesPreface, TakesRecord};
+ghost use Rattle.pcap_core.specs.Held.{held, bytes_taken};
+ghost use Rattle.pcap_core.specs.Rest.{rest_of, IsWhole, LeavesNothing, Serves};
+ghost use Rattle.pcap_core.specs.Pieces.{TakesHeader, TakesPreface, TakesRecord};
 
 use crate::fault::CaptureFault;
+use crate::frame::Frame;
 use crate::header::{HEADER_LEN, head_in};
 use crate::record_header::{RECORD_LEN, RecordHeader, preface_in};
-use capture_core::{Frame, Window};
+use crate::window::Window;
 use outside_core::Shelf;
 use pcap_defs::Head;
 use std::alloc::Global;
@@ -188,10 +189,10 @@ impl Reader {
     ghost use Rattle.pcap_defs.specs.Record.{Record, IsRecordFault, most_captured, most_records};
     ghost use Rattle.pcap_core.specs.Faults.{fault_in};
     ghost use Rattle.pcap_core.specs.Frames.{IsFrameOf};
-    ghost use Rattle.capture_core.specs.Held.{held};
-    ghost use Rattle.capture_core.specs.Limits.{most_held};
-    ghost use Rattle.capture_core.specs.Rest.{rest_of, IsWhole, LeavesNothing};
-    ghost use Rattle.pcap_core.specs.Rest.{TakesHeader, TakesRecord};
+    ghost use Rattle.pcap_core.specs.Held.{held};
+    ghost use Rattle.pcap_core.specs.Limits.{most_held};
+    ghost use Rattle.pcap_core.specs.Rest.{rest_of, IsWhole, LeavesNothing};
+    ghost use Rattle.pcap_core.specs.Pieces.{TakesHeader, TakesRecord};
     ghost use Rattle.pcap_core.specs.Left.{head_read};
     ghost use Rattle.pcap_core.specs.Readers.{head_of, is_big, is_nano, records_given, bytes_held, captured_of, is_live, IsFresh, rest_left};
 

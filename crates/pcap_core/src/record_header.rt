@@ -6,7 +6,7 @@ ghost use Rattle.pcap_core.specs.Faults.{fault_in};
 ghost use Rattle.pcap_core.specs.Frames.{IsFrontFault};
 
 use crate::fault::CaptureFault;
-use capture_core::read_long;
+use crate::number::read_long;
 use pcap_defs::{Head, MOST_CAPTURED};
 
 /// The length in bytes of a record before its captured bytes.

@@ -3,13 +3,13 @@ use Rattle.std.proofs.Common.{◌≡◌, ◌≢◌, ◌≤◌, ◌+◌, ◌-◌,
 use Rattle.std.proofs.Math.Seq.{take-append_seam}
 use Rattle.pcap_defs.specs.Number.{long_at}
 use Rattle.pcap_defs.proofs.Numbers.{number_at-append}
-use Rattle.capture_core.specs.Rest.{TakesFront}
+use Rattle.pcap_core.specs.Rest.{TakesFront}
 use Rattle.pcapng_defs.specs.declared.interface.Unit.{Unit}
 use Rattle.pcapng_defs.specs.Fault.{block_end}
 use Rattle.pcapng_defs.specs.Interface.{unit_of}
 use Rattle.pcapng_core.specs.Blocks.{HasRoom, ReadsTo, IsEndFault}
 use Rattle.pcapng_core.specs.Options.{IsUnitOf}
-use Rattle.capture_core.specs.Passed.{Passes}
+use Rattle.pcap_core.specs.Passed.{Passes}
 use Rattle.pcapng_core.specs.declared.start.Kind.TheVariants as kind
 use Rattle.pcapng_core.specs.declared.start.Start.{Start}
 

@@ -4,9 +4,9 @@ use Rattle.std.specs.Prelude.{IfSome, IfNone, is_some, option_map}
 use Rattle.std.proofs.lemmas.Option.{IfSome_then}
 use Rattle.pcap_defs.specs.Packet.{CapturedPacket}
 use Rattle.pcap_defs.specs.Contents.{FaultAt, no_capture}
-use Rattle.capture_core.specs.Rest.{LeavesNothing}
-use Rattle.capture_core.specs.declared.frame.LinkedFrame.{LinkedFrame}
-use Rattle.capture_core.specs.Captures.{packet_of, fault_told, Opens, Comes, IsOneLess, IsAt, LeavesNone}
+use Rattle.pcap_core.specs.Rest.{LeavesNothing}
+use Rattle.pcap_core.specs.declared.frame.LinkedFrame.{LinkedFrame}
+use Rattle.pcap_core.specs.Captures.{packet_of, fault_told, Opens, Comes, IsOneLess, IsAt, LeavesNone}
 use Rattle.pcapng_defs.specs.Fault.{BlockFault}
 use Rattle.pcapng_defs.specs.Block.{Carried, at_start}
 use Rattle.pcapng_defs.specs.NgCapture.{Reading, front_of, broken, reading_of, ng_capture_of, at_front, behind}

@@ -1,6 +1,6 @@
 -- The block at the front after a reader's steps, if the remaining bytes are known to the contract.
 use Rattle.std.proofs.Common.{◌≡◌, ◌<◌, ◌+◌, ℕ, Option, Some, None, List, ◌++◌, length, IfSome, refl, sym, ap, ◌∙◌, subst, arith, append_assoc}
-use Rattle.capture_core.specs.Rest.{rest_of, TakesFront}
+use Rattle.pcap_core.specs.Rest.{rest_of, TakesFront}
 use Rattle.pcapng_defs.specs.declared.interface.Unit.{Unit}
 use Rattle.pcapng_defs.specs.Fault.{BlockFault, block_cut}
 use Rattle.pcapng_defs.specs.Block.{Carried}

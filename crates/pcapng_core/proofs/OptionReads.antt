@@ -6,9 +6,9 @@ use Rattle.std.proofs.lemmas.Bool.{cases_lt}
 use Rattle.pcap_defs.specs.Number.{number_at}
 use Rattle.pcap_defs.proofs.Numbers.{number_at-append}
 use Rattle.pcapng_defs.specs.Interface.{gives, passes, option_front, unit_by, option_len}
-use Rattle.capture_core.specs.Rest.{TakesFront}
+use Rattle.pcap_core.specs.Rest.{TakesFront}
 use Rattle.pcapng_core.specs.Options.{front_said, FrontOf, StandsAt}
-use Rattle.capture_core.specs.Passed.{Passes, IsAll}
+use Rattle.pcap_core.specs.Passed.{Passes, IsAll}
 use Rattle.pcapng_core.specs.declared.options.Front.{Front}
 use Rattle.pcapng_core.specs.declared.options.Front.TheVariants as front
 use Rattle.pcapng_core.specs.declared.options.Step.TheVariants.{Ends, Gives, Passes as Behind}

@@ -5,7 +5,7 @@ use Rattle.std.proofs.lemmas.Bool.{lt-ltb, cond-true}
 use Rattle.pcapng_defs.specs.declared.interface.Unit.{Unit}
 use Rattle.pcapng_defs.specs.Interface.{usual_unit, ends, option_front, at_option, unit_of, option_len}
 use Rattle.pcapng_defs.proofs.OptionSteps.{units_go_option_by_option}
-use Rattle.capture_core.specs.Passed.{Passes}
+use Rattle.pcap_core.specs.Passed.{Passes}
 use Rattle.pcapng_core.specs.Options.{StandsAt, IsUnitOf, SameUnit}
 use Rattle.pcapng_core.specs.declared.options.Step.TheVariants.{Ends, Gives, Passes as Behind}
 

@@ -1,6 +1,6 @@
 -- The reading up to the next packet.
 use Rattle.std.proofs.Common.{◌≡◌, ◌≢◌, ℕ, Option, Some, None, List, [], IfSome, ap, ◌∙◌}
-use Rattle.capture_core.specs.Rest.{IsWhole}
+use Rattle.pcap_core.specs.Rest.{IsWhole}
 use Rattle.pcapng_defs.specs.Fault.{BlockFault}
 use Rattle.pcap_defs.specs.Packet.{CapturedPacket}
 use Rattle.pcapng_defs.specs.Block.{Carried}

@@ -3,7 +3,7 @@ use Rattle.std.proofs.Common.{◌≡◌, ◌<◌, ◌≤◌, ℕ, Option, Some, 
 use Rattle.std.specs.Prelude.{IsSomeAnd}
 use Rattle.std.proofs.lemmas.Bool.{cases_lt}
 use Rattle.pcap_defs.proofs.Numbers.{number_at-append}
-use Rattle.capture_core.specs.Rest.{TakesFront, IsShort}
+use Rattle.pcap_core.specs.Rest.{TakesFront, IsShort}
 use Rattle.pcapng_defs.specs.Fault.{BlockFault, code}
 use Rattle.pcapng_defs.specs.Block.{Carried, kind_of}
 use Rattle.pcapng_defs.specs.NgCapture.{front_of, broken, block_len}

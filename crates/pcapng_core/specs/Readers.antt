@@ -4,12 +4,12 @@ use Rattle.rank_defs.specs.Programs.{max_rank}
 use Rattle.pcap_defs.specs.Record.{most_captured}
 use Rattle.pcapng_core.specs.declared.reader.Block.{Block}
 use Rattle.pcapng_core.specs.declared.reader.Block.TheVariants as block
-use Rattle.capture_core.specs.Rest.{rest_of}
+use Rattle.pcap_core.specs.Rest.{rest_of}
 use Rattle.pcapng_defs.specs.Fault.{BlockFault}
 use Rattle.pcap_defs.specs.Packet.{CapturedPacket}
 use Rattle.pcapng_defs.specs.Block.{Carried, at_start}
 use Rattle.pcapng_defs.specs.NgCapture.{front_of, found, reading_of, behind}
-use Rattle.capture_core.specs.Held.{held}
+use Rattle.pcap_core.specs.Held.{held}
 use Rattle.pcapng_core.specs.Bodies.{packet_told}
 use Rattle.pcapng_core.specs.Carries.{carried_of}
 use Rattle.pcapng_core.specs.declared.body.Packet.{Packet}

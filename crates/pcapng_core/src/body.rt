@@ -11,7 +11,7 @@ use crate::carry::Carry;
 use crate::fault::NgFault;
 use crate::moment::moment_in;
 use crate::start::{Kind, Start};
-use capture_core::{read_long, read_short};
+use pcap_core::{read_long, read_short};
 use pcap_defs::MOST_CAPTURED;
 use pcapng_defs::{Interface, MOST_INTERFACES};
 

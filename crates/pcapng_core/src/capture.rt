@@ -4,8 +4,8 @@ ghost use Rattle.pcapng_core.specs.Faults.{read_error_as};
 
 use crate::fault::NgFault;
 use crate::reader::NgReader;
-use capture_core::{CaptureReader, LinkedFrame, Window};
 use outside_core::{ReadError, Shelf};
+use pcap_core::{CaptureReader, LinkedFrame, Window};
 use std::alloc::Global;
 
 /// Converts an error of this reader to the error type shared by all capture formats.

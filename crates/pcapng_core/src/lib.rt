@@ -11,7 +11,7 @@ mod options;
 mod reader;
 mod start;
 
-pub use capture_core::LinkedFrame as NgFrame;
 pub use fault::NgFault;
 pub use moment::moment_in;
+pub use pcap_core::LinkedFrame as NgFrame;
 pub use reader::NgReader;

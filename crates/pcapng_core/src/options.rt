@@ -1,14 +1,14 @@
 //! The options of an interface, read option by option.
 ghost use Rattle.std.specs.Prelude.{◌≡◌, ◌≤◌, ◌<◌, ◌+◌, ◌-◌, length, vec_len, IfOk, IsErrOf, IsTrue};
 ghost use Rattle.outside_core.specs.Faults.{Rose};
-ghost use Rattle.capture_core.specs.Rest.{rest_of, Serves};
-ghost use Rattle.capture_core.specs.Held.{held};
+ghost use Rattle.pcap_core.specs.Rest.{rest_of, Serves};
+ghost use Rattle.pcap_core.specs.Held.{held};
 ghost use Rattle.pcapng_defs.specs.Interface;
-ghost use Rattle.capture_core.specs.Passed.{Passes};
+ghost use Rattle.pcap_core.specs.Passed.{Passes};
 ghost use Rattle.pcapng_core.specs.Options.{step_rest, FitsIn, GoesDown, StandsAt, IsUnitOf, FrontOf};
 
-use capture_core::{Window, read_short};
 use outside_core::{Shelf, ShelfError};
+use pcap_core::{Window, read_short};
 use pcapng_defs::Unit;
 
 const USUAL_UNIT: Unit = Unit::Decimal(6);

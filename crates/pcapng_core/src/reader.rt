@@ -1,13 +1,13 @@
 //! Reads a pcapng capture packet by packet.
 ghost use Rattle.std.specs.Prelude.{◌≡◌, ◌≢◌, ◌≤◌, ◌<◌, ◌+◌, ◌-◌, ℕ, true, List, Option, Some, None, [], ◌++◌, length, vec_len, IfOk, IfErr, OnOk, OnErr, IfSome, IfNone, IsErrOf, IsTrue};
 ghost use Rattle.outside_core.specs.Faults.{Rose};
-ghost use Rattle.capture_core.specs.Rest.{rest_of, TakesFront, IsWhole, LeavesNothing, Serves};
+ghost use Rattle.pcap_core.specs.Rest.{rest_of, TakesFront, IsWhole, LeavesNothing, Serves};
 ghost use Rattle.pcapng_defs.specs.Fault.{block_cut};
 ghost use Rattle.pcapng_defs.specs.NgCapture.{front_of, broken, fits_kind, block_len, most_blocks};
 ghost use Rattle.pcapng_core.specs.Faults.{fault_in};
 ghost use Rattle.pcapng_core.specs.Kinds.{kind_said};
-ghost use Rattle.capture_core.specs.Held.{held};
-ghost use Rattle.capture_core.specs.Passed.{Passes};
+ghost use Rattle.pcap_core.specs.Held.{held};
+ghost use Rattle.pcap_core.specs.Passed.{Passes};
 ghost use Rattle.pcapng_core.specs.Options.{IsUnitOf};
 ghost use Rattle.pcapng_core.specs.Carries.{carried_of};
 ghost use Rattle.pcapng_core.specs.Bodies;
@@ -19,8 +19,8 @@ use crate::carry::Carry;
 use crate::fault::NgFault;
 use crate::options::read_unit;
 use crate::start::{Kind, START_LEN, Start, start_in};
-use capture_core::{Frame, LinkedFrame, Window, read_long};
 use outside_core::{Shelf, ShelfError};
+use pcap_core::{Frame, LinkedFrame, Window, read_long};
 use pcapng_defs::Unit;
 use std::alloc::Global;
 
@@ -220,10 +220,10 @@ impl NgReader {
     ghost use Rattle.outside_core.specs.Faults.{Rose};
     ghost use Rattle.outside_core.specs.Kept.{KeepsShelf};
     ghost use Rattle.rank_defs.specs.Programs.{max_rank};
-    ghost use Rattle.capture_core.specs.Captures.{packet_of};
-    ghost use Rattle.capture_core.specs.Held.{held};
-    ghost use Rattle.capture_core.specs.Limits.{most_held};
-    ghost use Rattle.capture_core.specs.Rest.{IsWhole, LeavesNothing, Serves};
+    ghost use Rattle.pcap_core.specs.Captures.{packet_of};
+    ghost use Rattle.pcap_core.specs.Held.{held};
+    ghost use Rattle.pcap_core.specs.Limits.{most_held};
+    ghost use Rattle.pcap_core.specs.Rest.{IsWhole, LeavesNothing, Serves};
     ghost use Rattle.pcap_defs.specs.Record.{most_captured};
     ghost use Rattle.pcapng_defs.specs.Fault.{BlockFault};
     ghost use Rattle.pcapng_defs.specs.Block.{at_start};

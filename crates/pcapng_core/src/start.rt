@@ -12,7 +12,7 @@ ghost use Rattle.pcapng_core.specs.Blocks.{IsStart};
 
 use crate::carry::Carry;
 use crate::fault::NgFault;
-use capture_core::read_long;
+use pcap_core::read_long;
 use pcapng_defs::MOST_TOTAL;
 
 /// The length in bytes of a block before its body, plus the first four bytes of the body.

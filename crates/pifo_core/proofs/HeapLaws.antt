@@ -11,7 +11,7 @@ use Rattle.std.proofs.lemmas.List.Sorted.{IsPermutation-refl, IsPermutation-sym,
 use Rattle.std.proofs.lemmas.List.Elements.{All-from_recursion, recursion_from_All}
 use Rattle.std.proofs.lemmas.Map.Keys.{IsDistinct-IsPermutation}
 use Rattle.std.proofs.Math.Nat.{eq-or-lt_of_le}
-use Rattle.pifo_defs.specs.Queue.{put, take_least}
+use Rattle.tree_defs.specs.Queue.{put, take_least}
 use Rattle.pifo_core.specs.declared.held.Held.{Held}
 use Rattle.pifo_core.specs.declared.held.Brief.{Brief}
 use Rattle.pifo_core.specs.Held.{wide, queue_of, Leaves, InLeavingOrder, ArrivedBefore}

@@ -5,8 +5,8 @@ use Rattle.std.proofs.Math.Nat.{eq-or-lt_of_le}
 use Rattle.std.specs.List.{AllByRecursion, AllWithin}
 use Rattle.std.proofs.lemmas.List.Elements.{All-from_recursion}
 use Rattle.std.proofs.lemmas.Bool.Decides.{nat_tests}
-use Rattle.pifo_defs.specs.Queue.{Queue, Taking, put, take_least}
-use Rattle.pifo_defs.proofs.TakeLeast.{AllAbove, AllFrom, take_least-split}
+use Rattle.tree_defs.specs.Queue.{Queue, Taking, put, take_least}
+use Rattle.tree_defs.proofs.TakeLeast.{AllAbove, AllFrom, take_least-split}
 use Rattle.pifo_core.specs.declared.held.Held.{Held}
 use Rattle.pifo_core.specs.Held.{placed, in_arrival_order, pair, queue_of, Leaves, InLeavingOrder, ArrivedBefore}
 use Rattle.pifo_core.specs.Sorted.{IsKept}

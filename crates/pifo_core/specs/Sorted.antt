@@ -1,6 +1,6 @@
 -- The invariant of a queue kept in dequeue order.
 use Rattle.std.specs.Prelude.{ℕ, List}
-use Rattle.pifo_defs.specs.Queue.{Queue}
+use Rattle.tree_defs.specs.Queue.{Queue}
 use Rattle.pifo_core.specs.declared.held.Held.{Held}
 use Rattle.pifo_core.specs.Held.{InLeavingOrder, ArrivedBefore}
 

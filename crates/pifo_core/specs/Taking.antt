@@ -1,6 +1,6 @@
 -- The result and the effect of a pop.
 use Rattle.std.specs.Prelude.{◌≡◌, ℕ, Option, None, Some, []}
-use Rattle.pifo_defs.specs.Queue.{Queue, take_least}
+use Rattle.tree_defs.specs.Queue.{Queue, take_least}
 
 -- dequeues the earliest pair of the least rank, or nothing if the queue is empty
 abbrev pub Pops : Queue → Option (ℕ × ℕ) → Queue → Type 0

@@ -1,6 +1,6 @@
 //! The trait of a push-in first-out queue.
 ghost use Rattle.std.specs.Prelude.{◌≡◌, ◌+◌, ◌^◌, ◌<◌, ◌≤◌, ℕ, length, OnOk};
-ghost use Rattle.pifo_defs.specs.Queue.{Queue, put};
+ghost use Rattle.tree_defs.specs.Queue.{Queue, put};
 ghost use Rattle.pifo_core.specs.Taking.{Pops};
 
 use std::alloc::AllocError;

@@ -2,9 +2,9 @@
 use Rattle.std.proofs.Common.{◌≡◌, ◌≤◌, ◌+◌, ◌∙◌, ℕ, [], ◌∷◌, refl, sym, subst, arith}
 use Rattle.tree_defs.specs.Tree.{Tree, SameShape, leaf, inner, none, more}
 use Rattle.tree_defs.specs.Topology.{Topology, topology_of, complete}
-use Rattle.target_defs.specs.Target.{IsArity, IsInRange}
-use Rattle.target_defs.specs.Levels.{Arities, levels}
-use Rattle.target_defs.proofs.LevelLaws.{heights_in_range-holds}
+use Rattle.embed_defs.specs.Target.{IsArity, IsInRange}
+use Rattle.embed_defs.specs.Levels.{Arities, levels}
+use Rattle.embed_defs.proofs.LevelLaws.{heights_in_range-holds}
 use Rattle.embed_defs.specs.Embedding.{HasEmbedding}
 use Rattle.embed_defs.specs.Laws.{AreWide}
 use Rattle.embed_defs.specs.Need.{AreNeedsOf, HoldsNeeds, FitsBelow, IsLeast}

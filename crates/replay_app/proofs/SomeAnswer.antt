@@ -3,9 +3,9 @@ use Rattle.std.proofs.Common.{◌≡◌, ℕ, List, length, refl, sym, subst, in
 use Rattle.std.proofs.lemmas.Bool.{cases_lt}
 use Rattle.tree_defs.specs.Tree.{Tree, Address}
 use Rattle.tree_defs.specs.Topology.{Topology, topology_of, complete}
-use Rattle.target_defs.specs.Levels.{levels}
-use Rattle.target_defs.specs.Target.{IsInRange}
-use Rattle.target_defs.proofs.LevelLaws.{heights_in_range-holds}
+use Rattle.embed_defs.specs.Levels.{levels}
+use Rattle.embed_defs.specs.Target.{IsInRange}
+use Rattle.embed_defs.proofs.LevelLaws.{heights_in_range-holds}
 use Rattle.embed_defs.specs.Embedding.{HasEmbedding, IsEmbedding}
 use Rattle.embed_defs.specs.Images.{image_map}
 use Rattle.embed_defs.specs.Laws.{AreWide}

@@ -1,7 +1,7 @@
 -- The output of the program, and of its calls.
 use Rattle.std.specs.Prelude.{◌≡◌, ◌⊎◌, ℕ, Option, None, List, Result, IfOk, OnOk, OnErr}
 use Rattle.outside_core.specs.Written.{Appended, AppendedPrefix}
-use Rattle.report_defs.specs.Report.{fault_line}
+use Rattle.outside_core.specs.Report.{fault_line}
 use Rattle.report_core.specs.Faults.{word_of}
 use Rattle.report_core.specs.declared.fault.FaultKind.{FaultKind}
 use Rattle.fabric_core.specs.declared.fabric.Fabric.{Ghosts}

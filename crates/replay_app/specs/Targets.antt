@@ -2,7 +2,7 @@
 use Rattle.std.specs.Prelude.{◌≡◌, ℕ, Bool, true, false, List, ◌++◌, length, codes}
 use Rattle.tree_defs.specs.Tree.{Tree, Address}
 use Rattle.tree_defs.specs.Topology.{Topology, complete}
-use Rattle.target_defs.specs.Levels.{levels}
+use Rattle.embed_defs.specs.Levels.{levels}
 use Rattle.target_core.specs.TargetText.{IsTargetText, IsRefused}
 use Rattle.target_core.specs.declared.target.Target.{Target}
 use Rattle.embed_defs.specs.Canonical.{IsCanonical}
@@ -10,7 +10,7 @@ use Rattle.embed_defs.specs.Embedding.{IsEmbedding, HasEmbedding}
 use Rattle.embed_defs.specs.Images.{image_map}
 use Rattle.policy_defs.specs.Policy.{Policy}
 use Rattle.embed_plan.specs.Plan.{IsPlan}
-use Rattle.report_defs.specs.Report.{fault_line}
+use Rattle.outside_core.specs.Report.{fault_line}
 use Rattle.report_core.specs.declared.fault.FaultKind.TheVariants as kind
 use Rattle.sched_embedded.specs.Laid.{Laid}
 use Rattle.replay_app.specs.Answer.{Answer, text_alone}

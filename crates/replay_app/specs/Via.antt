@@ -16,7 +16,7 @@ use Rattle.mapcheck_core.specs.MapFaults.{code_of, place_of}
 use Rattle.mapcheck_core.specs.MapTexts.{IsMapAnswer}
 use Rattle.mapcheck_core.specs.TreeTexts.{IsTreeText, IsTreeFault, code_of as tree_code, place_of as tree_place}
 use Rattle.report_core.specs.declared.fault.FaultKind.TheVariants as kind
-use Rattle.report_defs.specs.Report.{line_of, fault_line}
+use Rattle.outside_core.specs.Report.{line_of, fault_line}
 use Rattle.target_core.specs.declared.target.Target.{Target}
 use Rattle.sched_embedded.specs.Laid.{Laid}
 use Rattle.replay_app.specs.Answer.{Answer, text_alone}

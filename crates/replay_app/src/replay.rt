@@ -2,7 +2,7 @@
 ghost use Rattle.std.specs.Prelude.{◌≡◌, ◌<◌, ◌≤◌, ◌∷◌, [], IfOk, IfSome, OnOk, OnErr, IsTrue, IsErrOf};
 ghost use Rattle.outside_core.specs.Faults.{Rose};
 ghost use Rattle.outside_core.specs.Written.{Appended, AppendedPrefix};
-ghost use Rattle.target_defs.specs.Target.{IsInRange};
+ghost use Rattle.embed_defs.specs.Target.{IsInRange};
 ghost use Rattle.sched_embedded.specs.Fabrics.{IsAsItWas};
 ghost use Rattle.sched_run.specs.Steps.{pace_of, IsBounded};
 ghost use Rattle.sched_capture.specs.Placements.{laid_by, IsPlaced, CanCount};

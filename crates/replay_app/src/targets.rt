@@ -2,7 +2,7 @@
 ghost use Rattle.std.specs.Prelude.{◌≡◌, ◌≢◌, ◌≤◌, IfOk, OnOk, IfSome, IsTrue, IsErrOf};
 ghost use Rattle.outside_core.specs.Faults.{Rose};
 ghost use Rattle.outside_core.specs.Kept.{KeepsShelf};
-ghost use Rattle.target_defs.specs.Target.{IsInRange};
+ghost use Rattle.embed_defs.specs.Target.{IsInRange};
 ghost use Rattle.target_core.specs.Codes.{code_of};
 ghost use Rattle.replay_app.specs.Follows.{IsRead, IfAccepted};
 ghost use Rattle.replay_app.specs.Targets.{IsTargetRefused, IsTargetOf};

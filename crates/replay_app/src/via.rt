@@ -5,7 +5,7 @@ ghost use Rattle.outside_core.specs.Faults.{Rose};
 ghost use Rattle.outside_core.specs.Written.{Appended, AppendedPrefix};
 ghost use Rattle.tree_defs.specs.Tree.{nodes};
 ghost use Rattle.tree_core.specs.Shape.{topology};
-ghost use Rattle.target_defs.specs.Target.{IsInRange};
+ghost use Rattle.embed_defs.specs.Target.{IsInRange};
 ghost use Rattle.mapcheck_core.specs.GivenMaps.{IsWithinLimits};
 ghost use Rattle.sched_embedded.specs.Fabrics.{IsAsItWas};
 ghost use Rattle.sched_capture.specs.Placements.{laid_by, IsPlaced, CanCount};

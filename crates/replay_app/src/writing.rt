@@ -3,7 +3,7 @@ ghost use Rattle.std.specs.Prelude.{◌≡◌, ◌≤◌, ◌++◌, IfOk, OnOk, 
 ghost use Rattle.outside_core.specs.Faults.{Rose};
 ghost use Rattle.outside_core.specs.Written.{Appended, AppendedPrefix};
 ghost use Rattle.report_core.specs.Faults.{word_of};
-ghost use Rattle.report_defs.specs.Report.{fault_line};
+ghost use Rattle.outside_core.specs.Report.{fault_line};
 ghost use Rattle.replay_app.specs.Answer.{refusal};
 ghost use Rattle.replay_app.specs.Statuses.{kind_status};
 

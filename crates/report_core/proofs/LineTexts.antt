@@ -1,6 +1,6 @@
 -- The lines of a report, put together from the left.
 use Rattle.std.proofs.Common.{◌≡◌, ℕ, Option, None, Some, MatchOption, List, [], ◌∷◌, ◌++◌, decimal, codes, ap, ◌∙◌, append_assoc}
-use Rattle.report_defs.specs.Report.{line_of, departure_line, end_line, ranks_text}
+use Rattle.outside_core.specs.Report.{line_of, departure_line, end_line, ranks_text}
 
 pub five_words : (t e p l r : List ℕ) (letter : ℕ) → t ++ letter ∷ [] ++ 32 ∷ [] ++ e ++ 32 ∷ [] ++ p ++ 32 ∷ [] ++ l ++ 32 ∷ [] ++ r ++ 10 ∷ [] ≡ t ++ line_of ((letter ∷ []) ∷ e ∷ p ∷ l ∷ r ∷ [])
 five_words t e p l r letter = simp append_assoc

@@ -1,7 +1,7 @@
 -- Joined ranks, the first one first.
 use Rattle.std.proofs.Common.{◌≡◌, ℕ, ◌+◌, ◌-◌, ◌<◌, ◌≤◌, List, [], ◌∷◌, ◌++◌, length, get_or, take, drop, decimal, sym, ap, ◌∙◌, append_assoc, append-nil, arith, length-drop}
 use Rattle.std.proofs.lemmas.List.{take_all, take_rest, drop_more, drop_all}
-use Rattle.report_defs.specs.Report.{ranks_text}
+use Rattle.outside_core.specs.Report.{ranks_text}
 
 -- the ranks after others
 abbrev pub later_ranks : List ℕ → List ℕ

@@ -3,7 +3,7 @@ use Rattle.std.proofs.Common.{ℕ, Option, None, Some, List, [], ◌++◌, refl,
 use Rattle.std.proofs.lemmas.List.{append_cancel_left}
 use Rattle.outside_core.specs.Written.{Appended, AppendedPrefix}
 use Rattle.outside_core.specs.Kept.{Begins}
-use Rattle.report_defs.specs.Text.{appended, IsCut}
+use Rattle.outside_core.specs.Text.{appended, IsCut}
 
 -- a cut after a growth is a cut of both
 pub IsCut-append : (a b written : Option (List ℕ)) (first second : List ℕ) → Appended a b first → IsCut b second written → IsCut a (first ++ second) written

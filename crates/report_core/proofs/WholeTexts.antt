@@ -4,7 +4,7 @@ use Rattle.std.specs.Prelude.{IfSome}
 use Rattle.outside_core.specs.Written.{Appended, AppendedPrefix}
 use Rattle.outside_core.proofs.WrittenLaws.{appended_in_turn, appended_nothing, prefix_of_nothing}
 use Rattle.outside_core.specs.Kept.{Begins}
-use Rattle.report_defs.specs.Text.{appended, IsCut}
+use Rattle.outside_core.specs.Text.{appended, IsCut}
 use Rattle.outside_core.proofs.KeptLaws.{Begins-trans}
 use Rattle.report_core.proofs.TextLaws.{IsCut-append, Appended-from_start, AppendedPrefix-from_cut}
 

@@ -1,7 +1,7 @@
 -- A report as contracts see it.
 use Rattle.std.specs.Prelude.{ℕ, ◌≡◌, ◌+◌, ◌≤◌, Bool, Option, List, length}
 use Rattle.outside_core.specs.Written.{Appended}
-use Rattle.report_defs.specs.Text.{appended, IsCut}
+use Rattle.outside_core.specs.Text.{appended, IsCut}
 
 -- the bytes held but not yet written, and whether each write so far succeeded
 pub record Gathered : Type 0 where

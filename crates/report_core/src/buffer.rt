@@ -3,7 +3,7 @@ ghost use Rattle.std.specs.Prelude.{◌≡◌, ◌+◌, ◌≤◌, ℕ, List, []
 ghost use Rattle.outside_core.specs.Faults.{Rose};
 ghost use Rattle.outside_core.specs.Written.{Appended};
 ghost use Rattle.outside_core.specs.Kept.{KeepsSink};
-ghost use Rattle.report_defs.specs.Text.{appended, IsCut};
+ghost use Rattle.outside_core.specs.Text.{appended, IsCut};
 ghost use Rattle.report_core.specs.Gathered.{limit, line_room, HasRoom};
 
 use crate::fault::WriteFault;

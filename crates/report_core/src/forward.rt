@@ -1,7 +1,7 @@
 //! Writing bytes at an offset of a line, from its beginning to its end. The bytes after those
 //! written may change.
 ghost use Rattle.std.specs.Prelude.{◌≡◌, ◌+◌, ◌*◌, ◌≤◌, ◌<◌, [], ◌∷◌, ◌++◌, length, take, decimal};
-ghost use Rattle.report_defs.specs.Report.{ranks_text};
+ghost use Rattle.outside_core.specs.Report.{ranks_text};
 
 use itoa::{Buffer, write_digits};
 

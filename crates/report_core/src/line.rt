@@ -1,7 +1,7 @@
 //! The lines of a report as bytes.
 ghost use Rattle.std.specs.Prelude.{◌≡◌, ◌+◌, ◌≤◌, ◌∷◌, [], ◌++◌, length, take, decimal, codes, MatchOption};
 ghost use Rattle.text_core.specs.Tokens.{most_name};
-ghost use Rattle.report_defs.specs.Report.{arrival_line, departure_line, drop_line, empty_line, end_line, fault_line, ranks_text};
+ghost use Rattle.outside_core.specs.Report.{arrival_line, departure_line, drop_line, empty_line, end_line, fault_line, ranks_text};
 ghost use Rattle.report_core.specs.Faults.{word_of};
 ghost use Rattle.report_core.specs.Gathered.{line_room};
 

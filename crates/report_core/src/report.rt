@@ -4,7 +4,7 @@ ghost use Rattle.outside_core.specs.Faults.{Rose};
 ghost use Rattle.outside_core.specs.Kept.{KeepsSink};
 ghost use Rattle.outside_core.specs.Written.{Appended};
 ghost use Rattle.text_core.specs.Tokens.{most_name};
-ghost use Rattle.report_defs.specs.Report.{arrival_line, departure_line, drop_line, empty_line, end_line, fault_line};
+ghost use Rattle.outside_core.specs.Report.{arrival_line, departure_line, drop_line, empty_line, end_line, fault_line};
 ghost use Rattle.report_core.specs.Faults.{word_of};
 ghost use Rattle.report_core.specs.Gathered.{limit, text_of, Tells, CutsOff};
 

@@ -2,7 +2,7 @@
 ghost use Rattle.std.specs.Prelude.{◌≡◌, IfErr, OnOk, OnErr};
 ghost use Rattle.outside_core.specs.Kept.{KeepsSink, HasSinkCause};
 ghost use Rattle.outside_core.specs.Written.{Appended, AppendedPrefix};
-ghost use Rattle.report_defs.specs.Report.{fault_line};
+ghost use Rattle.outside_core.specs.Report.{fault_line};
 ghost use Rattle.report_core.specs.Faults.{word_of};
 
 use crate::fault::FaultKind;

@@ -18,7 +18,7 @@ use Rattle.sched_defs.specs.Packets.{Left}
 use Rattle.sched_run.specs.declared.pace.Pace.{Pace}
 use Rattle.sched_run.specs.Steps.{pace_of}
 use Rattle.sched_run.proofs.StepLaws.{on_err_given}
-use Rattle.sched_packets.specs.Arrivals.{Begins}
+use Rattle.sched_capture.specs.Arrivals.{Begins}
 use Rattle.sched_embedded.specs.declared.embedded.Embedded.{Embedded}
 use Rattle.sched_embedded.specs.Embedded.{EmbeddedStands, origin_of}
 use Rattle.sched_embedded.specs.Fabrics.{FabricRun, run_of, HoldsAfter, Leaves, LeavesPart}

@@ -16,7 +16,7 @@ use Rattle.sched_defs.specs.Packets.{Left}
 use Rattle.sched_run.specs.Steps.{IsNoPastLast, CanEndSo}
 use Rattle.sched_run.specs.declared.pace.Pace as code
 use Rattle.sched_run.specs.declared.pace.Pace.TheVariants as code_pace
-use Rattle.sched_packets.specs.Arrivals.{Begins}
+use Rattle.sched_capture.specs.Arrivals.{Begins}
 use Rattle.tap_core.specs.Watching.{Sight}
 use Rattle.sched_capture.specs.Outside.{IsReported, KeepsOutside}
 use Rattle.sched_capture.specs.Answers.{RunAnswer, IsRefusal, answer_of, answer_over, paced_answer, shown_by, HaveWatched}

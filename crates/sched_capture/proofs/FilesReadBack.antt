@@ -17,8 +17,8 @@ use Rattle.sched_defs.specs.Packets.{captured_from}
 use Rattle.sched_defs.specs.declared.rate.LinkRate.{LinkRate}
 use Rattle.forward_defs.specs.SingleLinkType.{other_link, first_link, behind_packet, of_link, of_one_link}
 use Rattle.forward_defs.proofs.ReadBack.{forwarded_runs-read_back}
-use Rattle.sched_packets.specs.Packets.{class_given, packets_from}
-use Rattle.sched_packets.specs.SingleLinkType.{ahead_in, one_link_in, link_in}
+use Rattle.sched_capture.specs.Packets.{class_given, packets_from}
+use Rattle.sched_capture.specs.SingleLinkType.{ahead_in, one_link_in, link_in}
 use Rattle.sched_capture.specs.Forwards.{forward_over}
 use Rattle.sched_capture.specs.Laws.{AreReadBack, ForwardsAreReadBack}
 use Rattle.sched_capture.proofs.RunnablePolicies.{IsRunnable, runnable}

@@ -17,9 +17,9 @@ use Rattle.policy_rules.specs.Resolved.{Resolved}
 use Rattle.sched_defs.specs.declared.ending.Ending.{Ending}
 use Rattle.sched_defs.specs.Packets.{Left, Captured, captured_from, StaysKnown}
 use Rattle.sched_defs.specs.declared.rate.LinkRate.{LinkRate}
-use Rattle.sched_packets.specs.Arrivals.{Begins, AreCapturedIn, left_in}
-use Rattle.sched_packets.specs.CapturedBytes.{captured_from-are}
-use Rattle.sched_packets.specs.SingleLinkType.{one_link_in, link_in}
+use Rattle.sched_capture.specs.Arrivals.{Begins, AreCapturedIn, left_in}
+use Rattle.sched_capture.specs.CapturedBytes.{captured_from-are}
+use Rattle.sched_capture.specs.SingleLinkType.{one_link_in, link_in}
 use Rattle.sched_capture.specs.Answers.{IsRefusal}
 use Rattle.sched_capture.specs.Forwards.{ForwardAnswer, forward_of, forward_over, forward_answer, forward_refusal, forward_events, sent_bytes, refusal_ending}
 use Rattle.sched_capture.specs.declared.departures.ForwardEnding.{ForwardEnding}

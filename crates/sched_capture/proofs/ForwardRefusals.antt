@@ -8,11 +8,11 @@ use Rattle.outside_core.specs.declared.stop.Stop.{Stop}
 use Rattle.outside_core.proofs.WrittenLaws.{prefix_of_nothing}
 use Rattle.pcap_defs.specs.Contents.{Contents, FileContents, no_capture, holds}
 use Rattle.pcapng_defs.specs.NgContents.{in_file}
-use Rattle.capture_core.specs.Captures.{Opens}
+use Rattle.pcap_core.specs.Captures.{Opens}
 use Rattle.policy_rules.specs.Resolved.{Resolved}
 use Rattle.sched_defs.specs.declared.ending.Ending.{Ending}
 use Rattle.sched_defs.specs.declared.rate.LinkRate.{LinkRate}
-use Rattle.sched_packets.specs.SingleLinkType.{EachFileOf, one_link_in, link_in}
+use Rattle.sched_capture.specs.SingleLinkType.{EachFileOf, one_link_in, link_in}
 use Rattle.sched_capture.specs.Answers.{IsRefusalPart}
 use Rattle.sched_capture.specs.Forwards.{forward_over, forward_answer}
 use Rattle.sched_capture.proofs.Refusals.{nothing_part}

@@ -3,7 +3,7 @@ use Rattle.std.proofs.Common.{◌≡◌, ◌+◌, ℕ, Bool, true, false, not, i
 use Rattle.std.specs.Prelude.{IfSome}
 use Rattle.std.proofs.lemmas.List.{map-append}
 use Rattle.outside_core.specs.Written.{Appended}
-use Rattle.report_defs.specs.Text.{IsCut}
+use Rattle.outside_core.specs.Text.{IsCut}
 use Rattle.report_core.specs.Gathered.{text_of}
 use Rattle.report_core.proofs.TextLaws.{IsCut-longer}
 use Rattle.policy_defs.specs.Policy.{Policy}

@@ -10,3 +10,8 @@ pub mod RunnablePolicies
 pub mod PacketRanges
 pub mod FilesReadBack
 pub mod SentRecords
+pub mod RecordPackets
+pub mod CapturedBytes
+pub mod PacketsLeft
+pub mod SingleLinkTypePackets
+pub mod Fronts

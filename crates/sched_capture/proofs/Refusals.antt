@@ -5,7 +5,7 @@ use Rattle.outside_core.specs.Written.{Appended, AppendedPrefix}
 use Rattle.outside_core.proofs.WrittenLaws.{appended_nothing, prefix_of_nothing}
 use Rattle.pcap_defs.specs.Contents.{FaultAt, FileContents, no_capture, holds}
 use Rattle.pcapng_defs.specs.NgContents.{in_file}
-use Rattle.report_defs.specs.Report.{fault_line}
+use Rattle.outside_core.specs.Report.{fault_line}
 use Rattle.sched_defs.specs.Pace.{Pace}
 use Rattle.sched_defs.specs.declared.ending.Ending.{Ending}
 use Rattle.sched_defs.specs.declared.ending.Ending.TheVariants.{BadCapture}

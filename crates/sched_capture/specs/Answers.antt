@@ -5,7 +5,7 @@ use Rattle.pcap_defs.specs.Contents.{FileContents, no_capture, holds}
 use Rattle.pcapng_defs.specs.NgContents.{in_file}
 use Rattle.packet_defs.specs.declared.packet.Packet.{Packet}
 use Rattle.policy_defs.specs.Policy.{Policy}
-use Rattle.report_defs.specs.Report.{fault_line}
+use Rattle.outside_core.specs.Report.{fault_line}
 use Rattle.sched_defs.specs.SourceState.{start}
 use Rattle.sched_defs.specs.Events.{Event, outcomes}
 use Rattle.sched_defs.specs.declared.ending.Ending.{Ending}
@@ -13,7 +13,7 @@ use Rattle.sched_defs.specs.declared.ending.Ending.TheVariants.{BadCapture}
 use Rattle.sched_defs.specs.Faults.{FaultAt}
 use Rattle.sched_defs.specs.Pace.{Pace, paced_course, paced_report}
 use Rattle.policy_rules.specs.Resolved.{Resolved}
-use Rattle.sched_packets.specs.Arrivals.{left_in}
+use Rattle.sched_capture.specs.Arrivals.{left_in}
 use Rattle.sched_run.specs.Shown.{shown_in}
 use Rattle.tap_core.specs.Lists.{Shown}
 use Rattle.tap_core.specs.Watching.{Sight, Watches}

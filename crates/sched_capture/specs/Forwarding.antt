@@ -2,7 +2,7 @@
 use Rattle.std.specs.Prelude.{◌≡◌, ℕ, nat_eq, Bool, Option, option_map, IsTrue, List, []}
 use Rattle.indexmap.specs.IndexMap.{get}
 use Rattle.outside_core.specs.Written.{Appended}
-use Rattle.report_defs.specs.Text.{IsCut}
+use Rattle.outside_core.specs.Text.{IsCut}
 use Rattle.report_core.specs.Gathered.{text_of}
 use Rattle.policy_defs.specs.Policy.{Policy}
 use Rattle.sched_defs.specs.Packets.{Captured}

@@ -4,7 +4,7 @@ use Rattle.pcap_defs.specs.Contents.{FaultAt, FileContents, no_capture, holds}
 use Rattle.pcapng_defs.specs.NgContents.{in_file}
 use Rattle.policy_defs.specs.Policy.{Policy}
 use Rattle.policy_rules.specs.Resolved.{Resolved}
-use Rattle.report_defs.specs.Report.{fault_line}
+use Rattle.outside_core.specs.Report.{fault_line}
 use Rattle.sched_defs.specs.SourceState.{start}
 use Rattle.sched_defs.specs.Events.{Event, Outcome, outcomes}
 use Rattle.sched_defs.specs.declared.ending.Ending.{Ending}
@@ -19,8 +19,8 @@ use Rattle.forward_defs.specs.Forwarded.{sent_record, forward_bytes}
 use Rattle.forward_defs.specs.SingleLinkType.{other_link}
 use Rattle.sched_embedded.specs.Laid.{Laid}
 use Rattle.sched_embedded.specs.Fabrics.{FabricRun}
-use Rattle.sched_packets.specs.Arrivals.{left_in}
-use Rattle.sched_packets.specs.SingleLinkType.{one_link_in, link_in}
+use Rattle.sched_capture.specs.Arrivals.{left_in}
+use Rattle.sched_capture.specs.SingleLinkType.{one_link_in, link_in}
 use Rattle.sched_capture.specs.declared.departures.ForwardEnding.{ForwardEnding}
 use Rattle.sched_capture.specs.declared.departures.ForwardEnding.TheVariants.{Whole, BadCapture, OtherLink, Late}
 

@@ -2,7 +2,7 @@
 use Rattle.std.proofs.Common.{◌≡◌, ℕ, ◌||◌, ◌==◌, if◌then◌else◌, Option, None, Some, List, [], ◌∷◌, ◌++◌, refl, sym, ap, ◌∙◌, subst, append-nil}
 use Rattle.outside_core.specs.Written.{Appended}
 use Rattle.outside_core.proofs.WrittenLaws.{appended_nothing, appended_in_turn}
-use Rattle.report_defs.specs.Text.{IsCut}
+use Rattle.outside_core.specs.Text.{IsCut}
 use Rattle.report_core.specs.Gathered.{text_of}
 use Rattle.report_core.proofs.TextLaws.{IsCut-append, IsCut-longer}
 use Rattle.sched_defs.specs.Packets.{Captured}

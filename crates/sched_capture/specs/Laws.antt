@@ -15,8 +15,8 @@ use Rattle.sched_defs.specs.Pace.{Pace}
 use Rattle.sched_defs.specs.declared.rate.LinkRate.{LinkRate}
 use Rattle.forward_defs.specs.Sendings.{Sending, sendings}
 use Rattle.forward_defs.specs.Laws.{holds_sendings}
-use Rattle.sched_packets.specs.Arrivals.{left_in}
-use Rattle.sched_packets.specs.SingleLinkType.{one_link_in, link_in}
+use Rattle.sched_capture.specs.Arrivals.{left_in}
+use Rattle.sched_capture.specs.SingleLinkType.{one_link_in, link_in}
 use Rattle.sched_capture.specs.Answers.{paced_answer}
 use Rattle.sched_capture.specs.Forwards.{forward_events, forward_answer}
 

@@ -8,3 +8,9 @@ pub mod Forwards
 pub mod Rows
 pub mod Forwarding
 pub mod JoinedRecords
+pub mod Packets
+pub mod NextPacket
+pub mod Arrivals
+pub mod CapturedBytes
+pub mod CapturePackets
+pub mod SingleLinkType

@@ -3,7 +3,7 @@ use Rattle.std.specs.Prelude.{◌<◌, ◌^◌}
 use Rattle.tree_defs.specs.Tree.{SameShape}
 use Rattle.tree_defs.specs.Topology.{topology_of, complete}
 use Rattle.policy_defs.specs.Policy.{Policy}
-use Rattle.target_defs.specs.Target.{IsInRange}
+use Rattle.embed_defs.specs.Target.{IsInRange}
 use Rattle.embed_defs.specs.Images.{image_map}
 use Rattle.embed_defs.specs.Embedding.{IsEmbedding}
 use Rattle.fabric_core.specs.declared.fabric.Fabric.{Ghosts}

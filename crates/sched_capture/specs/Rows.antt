@@ -15,7 +15,7 @@ use Rattle.sched_defs.specs.SendTime.{plain_rate}
 use Rattle.sched_defs.specs.Pace.{Script, Link}
 use Rattle.sched_defs.specs.declared.ending.Ending.TheVariants as run
 use Rattle.tap_core.specs.Lists.{departed}
-use Rattle.sched_packets.specs.SingleLinkType.{one_link_in}
+use Rattle.sched_capture.specs.SingleLinkType.{one_link_in}
 use Rattle.sched_capture.specs.declared.departures.ForwardEnding.TheVariants.{Whole, BadCapture, OtherLink, Late}
 use Rattle.sched_capture.specs.Answers.{RunAnswer, refusal_answer, answer_over, shown_by}
 use Rattle.sched_capture.specs.Forwards.{ForwardAnswer, forward_over, forward_answer}

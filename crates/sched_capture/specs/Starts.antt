@@ -3,10 +3,10 @@ use Rattle.std.specs.Prelude.{◌≡◌, Bool}
 use Rattle.policy_defs.specs.Policy.{Policy}
 use Rattle.sched_defs.specs.SourceState.{start}
 use Rattle.sched_core.specs.declared.scheduler.Scheduler as scheduler
-use Rattle.sched_packets.specs.CapturePackets.{policy_of, given_by, IsReady}
-use Rattle.sched_packets.specs.SingleLinkType as one
-use Rattle.sched_packets.specs.declared.capture_packets.CapturePackets.{CapturePackets}
-use Rattle.sched_packets.specs.declared.single_link_type.SingleLinkType.{SingleLinkType}
+use Rattle.sched_capture.specs.CapturePackets.{policy_of, given_by, IsReady}
+use Rattle.sched_capture.specs.SingleLinkType as one
+use Rattle.sched_capture.specs.declared.capture_packets.CapturePackets.{CapturePackets}
+use Rattle.sched_capture.specs.declared.single_link_type.SingleLinkType.{SingleLinkType}
 use Rattle.sched_run.specs.declared.recorder.Recorder as recorder
 use Rattle.sched_run.specs.declared.run.Run.{Run}
 use Rattle.sched_run.specs.Frames.{IsSet}

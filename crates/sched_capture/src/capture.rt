@@ -2,11 +2,11 @@
 ghost use Rattle.std.specs.Prelude.{◌≡◌, ◌≤◌, codes, IfOk, IfErr, IfSome, IsTrue, OnOk, OnErr};
 ghost use Rattle.outside_core.specs.Kept.{KeepsSink, HasCause, HasSinkCause};
 ghost use Rattle.outside_core.specs.Written.{Appended, AppendedPrefix};
-ghost use Rattle.report_defs.specs.Report.{fault_line};
+ghost use Rattle.outside_core.specs.Report.{fault_line};
 ghost use Rattle.pcapng_defs.specs.NgContents.{in_file};
-ghost use Rattle.sched_packets.specs.Arrivals.{Begins};
-ghost use Rattle.capture_core.specs.Captures.{Opens};
-ghost use Rattle.sched_packets.specs.CapturePackets.{resolved_of, contents_of, left_of};
+ghost use Rattle.sched_capture.specs.Arrivals.{Begins};
+ghost use Rattle.pcap_core.specs.Captures.{Opens};
+ghost use Rattle.sched_capture.specs.CapturePackets.{resolved_of, contents_of, left_of};
 ghost use Rattle.sched_defs.specs.SourceState.{start};
 ghost use Rattle.sched_run.specs.Stages.{IsFresh};
 ghost use Rattle.sched_run.specs.Steps.{pace_of, IsBounded, IsNoPastLast, CanEndSo};
@@ -14,6 +14,7 @@ ghost use Rattle.sched_capture.specs.Answers.{IsRefusal, IsRefusalPart, answer_o
 ghost use Rattle.sched_capture.specs.Starts.{IsAtStart, AreUnread};
 ghost use Rattle.sched_capture.specs.Outside.{IsReported, KeepsOutside};
 
+use crate::capture_packets::CapturePackets;
 use crate::course::run_over;
 use crate::task::Task;
 use outside_core::{ReadError, Shelf, Sink, Stop};
@@ -21,7 +22,6 @@ use policy_core::Policy;
 use report_core::{FaultKind, Report, write_fault};
 use sched_core::{Direct, Scheduler};
 use sched_defs::Ending;
-use sched_packets::CapturePackets;
 use sched_run::{Pace, Recorder, Run};
 use std::alloc::{AllocError, Global};
 use tap_core::{Named, Tap, Watching};

@@ -2,7 +2,7 @@
 ghost use Rattle.std.specs.Prelude.{◌≡◌, [], IfOk, IfSome, OnOk, OnErr};
 ghost use Rattle.sched_defs.specs.SourceState.{start};
 ghost use Rattle.sched_defs.specs.Events.{outcomes};
-ghost use Rattle.sched_packets.specs.CapturePackets.{left_of};
+ghost use Rattle.sched_capture.specs.CapturePackets.{left_of};
 ghost use Rattle.sched_run.specs.Courses.{course_of};
 ghost use Rattle.sched_run.specs.Frames.{Continues};
 ghost use Rattle.sched_run.specs.Steps.{pace_of, IsBounded, CanEndSo};
@@ -13,12 +13,12 @@ ghost use Rattle.tap_core.specs.Watching.{sight_of, Watches, AreNoMore};
 ghost use Rattle.sched_capture.specs.Starts.{IsAtStart, AreUnread};
 ghost use Rattle.sched_capture.specs.Outside.{IsReported, KeepsOutside};
 
+use crate::capture_packets::CapturePackets;
 use outside_core::{Shelf, Sink, Stop};
 use policy_core::Policy;
 use report_core::Report;
 use sched_core::Scheduler;
 use sched_defs::Ending;
-use sched_packets::CapturePackets;
 use sched_run::{Pace, Recorder, Run};
 use tap_core::{Tap, Watching};
 

@@ -2,7 +2,7 @@
 ghost use Rattle.std.specs.Prelude.{◌≡◌, ◌<◌, Some, List, IfOk, IfSome, IsTrue, OnOk, OnErr};
 ghost use Rattle.sched_defs.specs.SourceState.{start};
 ghost use Rattle.sched_defs.specs.Events.{Event, outcomes};
-ghost use Rattle.sched_packets.specs.CapturePackets.{left_of};
+ghost use Rattle.sched_capture.specs.CapturePackets.{left_of};
 ghost use Rattle.sched_run.specs.Courses.{course_of};
 ghost use Rattle.sched_run.specs.Shown.{shown_in};
 ghost use Rattle.sched_run.specs.Stages.{IsFresh};
@@ -16,6 +16,7 @@ ghost use Rattle.sched_capture.specs.Starts.{IsAtStart, AreUnread};
 ghost use Rattle.sched_capture.specs.Outside.{IsReported, KeepsOutside};
 
 use crate::capture::begin;
+use crate::capture_packets::CapturePackets;
 use crate::course::run_over;
 use crate::task::Task;
 use embed_core::{Map, Target};
@@ -26,7 +27,6 @@ use report_core::Report;
 use sched_core::Scheduler;
 use sched_defs::Ending;
 use sched_embedded::Embedded;
-use sched_packets::CapturePackets;
 use sched_run::{Pace, Recorder, Run};
 use std::alloc::{AllocError, Global};
 use tap_core::{Tap, Watching};

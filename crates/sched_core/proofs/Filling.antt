@@ -5,8 +5,8 @@ use Rattle.std.specs.Option.{option_map_or}
 use Rattle.std.proofs.lemmas.Bool.{cases_eq}
 use Rattle.std.proofs.lemmas.List.{get_or-replicate, length-replicate}
 use Rattle.std.proofs.lemmas.Option.{slice_get_within, get_or_from_slice_get, slice_get-get_or}
-use Rattle.pifo_defs.specs.Queue.{Queue, take_least, take_from, Taking}
-use Rattle.pifo_defs.proofs.TakeLeast.{length-put, length-rest}
+use Rattle.tree_defs.specs.Queue.{Queue, take_least, take_from, Taking}
+use Rattle.tree_defs.proofs.TakeLeast.{length-put, length-rest}
 use Rattle.tree_defs.specs.Tree.{Tree, leaf, inner, Trees, none, more, Address, LeadsToLeaf, Popping, nodes}
 use Rattle.tree_defs.specs.Topology.{topology_of}
 use Rattle.tree_defs.specs.SourceTree.{SourceTree, pop, size, sizes, empty_tree}

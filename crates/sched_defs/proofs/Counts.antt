@@ -1,6 +1,6 @@
 -- As many packets are queued as are in the leaves.
 use Rattle.std.proofs.Common.{◌≡◌, ℕ, ◌+◌, List, [], ◌∷◌, map, length, refl, arith, length-append}
-use Rattle.pifo_defs.specs.Queue.{Queue}
+use Rattle.tree_defs.specs.Queue.{Queue}
 use Rattle.tree_defs.specs.Tree.{Tree, leaf, inner, Trees, none, more}
 use Rattle.tree_defs.specs.SourceTree.{size, sizes}
 use Rattle.tree_defs.specs.Packets.{values, values_below}

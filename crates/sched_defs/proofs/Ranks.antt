@@ -2,7 +2,7 @@
 use Rattle.std.proofs.Common.{◌≡◌, ◌≤◌, ℕ, zero, suc, ◌∷◌, [], List, Some, subst, arith}
 use Rattle.std.specs.Prelude.{option_map, slice_index, drop}
 use Rattle.std.specs.List.{AllByRecursion}
-use Rattle.pifo_defs.specs.Queue.{Entry, Queue, put, Taking, take_least}
+use Rattle.tree_defs.specs.Queue.{Entry, Queue, put, Taking, take_least}
 use Rattle.tree_defs.specs.Tree.{Tree, leaf, inner, Trees, none, more, Popping}
 use Rattle.tree_defs.specs.Topology.{Topology}
 use Rattle.tree_defs.specs.SourceTree.{empty_tree, empty_trees, push, push_child, pop, pop_child, of_leaf, of_inner, of_first, of_later}

@@ -3,8 +3,8 @@ use Rattle.std.proofs.Common.{◌≡◌, ◌≢◌, ◌≤◌, ◌<◌, ◌⊎�
 use Rattle.std.specs.List.{AllByRecursion, IsDistinct, Contains}
 use Rattle.std.proofs.lemmas.Bool.{eqb-false}
 use Rattle.std.proofs.lemmas.Bool.Decides.{Decides-eqb}
-use Rattle.pifo_defs.specs.Queue.{Queue, put, take_least, take_from, Taking}
-use Rattle.pifo_defs.proofs.TakeLeast.{length-put, length-rest}
+use Rattle.tree_defs.specs.Queue.{Queue, put, take_least, take_from, Taking}
+use Rattle.tree_defs.proofs.TakeLeast.{length-put, length-rest}
 use Rattle.tree_defs.specs.Tree.{leaf, inner, Trees, none, more, Address, LeadsToLeaf, Popping}
 use Rattle.tree_defs.specs.Topology.{Topology, topology_of}
 use Rattle.tree_defs.specs.SourceTree.{SourceTree, push, pop, empty_tree, empty_trees}

@@ -3,7 +3,7 @@ use Rattle.std.specs.Prelude.{ℕ, ◌+◌, ◌==◌, if◌then◌else◌, Optio
 use Rattle.tree_defs.specs.SourceTree.{size}
 use Rattle.packet_defs.specs.declared.packet.Packet.{Packet}
 use Rattle.policy_defs.specs.Policy.{Policy, name_at}
-use Rattle.report_defs.specs.Report.{arrival_line, departure_line, drop_line, empty_line, end_line, fault_line}
+use Rattle.outside_core.specs.Report.{arrival_line, departure_line, drop_line, empty_line, end_line, fault_line}
 use Rattle.sched_defs.specs.SourceState.{SourceState, start}
 use Rattle.sched_defs.specs.Events.{Outcome, Arrived, Departed, Dropped, Empty, after, outcomes, pushed_in, popped_in, dropped_in, empty_in}
 use Rattle.sched_defs.specs.declared.ending.Ending.{Ending}

@@ -1,7 +1,7 @@
 -- The states that events lead to.
 use Rattle.std.specs.Prelude.{◌≡◌, ◌≤◌, ◌<◌, ℕ, nat_eq, Some, IfSome, length}
 use Rattle.std.specs.List.{AllByRecursion, IsDistinct, Contains}
-use Rattle.pifo_defs.specs.Queue.{Queue}
+use Rattle.tree_defs.specs.Queue.{Queue}
 use Rattle.tree_defs.specs.Tree.{Tree, leaf, inner, Trees, none, more, Address, SameShape}
 use Rattle.tree_defs.specs.SourceTree.{IsWellFormed}
 use Rattle.tree_defs.specs.Packets.{Placed, values, packets}

@@ -3,7 +3,7 @@ use Rattle.std.proofs.Common.{◌≡◌, ℕ, List, None, Some, refl, sym, ap, �
 use Rattle.std.specs.Prelude.{IfSome}
 use Rattle.tree_defs.specs.SourceTree.{size}
 use Rattle.tree_core.specs.Paths.{Way}
-use Rattle.target_defs.specs.Family.{Family}
+use Rattle.embed_defs.specs.Family.{Family}
 use Rattle.packet_defs.specs.declared.packet.Packet.{Packet}
 use Rattle.policy_defs.specs.Policy.{Policy}
 use Rattle.sched_defs.specs.SourceState.{SourceState, departed, leaver}

@@ -2,7 +2,7 @@
 use Rattle.std.proofs.Common.{◌≡◌, ◌⊎◌, ◌↔◌, ℕ, zero, suc, ◌+◌, false, List, [], ◌∷◌, ◌++◌, map, nat_eq, Option, Some, IsSome, refl, sym, ap, ◌∙◌, subst, arith, inl, inr}
 use Rattle.std.specs.List.{AllByRecursion, IsDistinct, Contains}
 use Rattle.std.proofs.lemmas.List.{length-map}
-use Rattle.pifo_defs.specs.Queue.{Queue}
+use Rattle.tree_defs.specs.Queue.{Queue}
 use Rattle.tree_defs.specs.Tree.{Tree, leaf, inner, Trees, none, more, Address}
 use Rattle.tree_defs.specs.SourceTree.{size}
 use Rattle.tree_defs.specs.Packets.{Placed, below, values, values_below, packets, packets_below, queue_at, queue_in}

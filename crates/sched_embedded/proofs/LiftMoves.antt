@@ -1,6 +1,6 @@
 -- The effect of a push and a pop of the fabric on the source tree whose lift its queues are.
 use Rattle.std.proofs.Common.{◌≡◌, ℕ, zero, suc, List, [], length, Option, None, Some, refl, sym, ap, ◌∙◌, subst}
-use Rattle.pifo_defs.specs.Queue.{Queue}
+use Rattle.tree_defs.specs.Queue.{Queue}
 use Rattle.tree_defs.specs.Tree.{Tree, Address, Popping, LeadsToLeaf, IsAddressOf}
 use Rattle.tree_defs.specs.SourceTree.{SourceTree, push, pop}
 use Rattle.tree_defs.specs.Laws.{LedToALeaf}
@@ -8,8 +8,8 @@ use Rattle.tree_defs.proofs.Shapes.{topology_of-same, pop-path}
 use Rattle.tree_defs.proofs.TopologyLaws.{leaf_at}
 use Rattle.tree_defs.proofs.WellFormedLaws.{IsWellFormed-push, IsWellFormed-pop}
 use Rattle.tree_core.specs.Paths.{Way}
-use Rattle.target_defs.specs.Family.{Family, SameQueues, Pops, push_along, pop_along}
-use Rattle.target_defs.specs.Spills.{spills_along}
+use Rattle.embed_defs.specs.Family.{Family, SameQueues, Pops, push_along, pop_along}
+use Rattle.embed_defs.specs.Spills.{spills_along}
 use Rattle.embed_defs.specs.Images.{image_map}
 use Rattle.embed_defs.specs.Lift.{IsLift, StandsAt, lift_ranks, picked_ranks}
 use Rattle.embed_defs.specs.Spilling.{push_spills}

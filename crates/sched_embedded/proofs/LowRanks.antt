@@ -2,7 +2,7 @@
 use Rattle.std.proofs.Common.{ℕ, zero, suc, ◌-◌, ◌≤◌, List, [], ◌∷◌, ◌++◌, length, replicate, drop, arith}
 use Rattle.std.specs.Prelude.{slice_index}
 use Rattle.tree_defs.specs.Tree.{Tree, leaf, inner, Trees, none, more, Address, root_of}
-use Rattle.target_defs.specs.Family.{AreRanks}
+use Rattle.embed_defs.specs.Family.{AreRanks}
 use Rattle.embed_defs.specs.Lift.{lift_ranks, lift_ranks_below}
 
 first-low : (ranks : List ℕ) → AreRanks ranks → slice_index ranks 0 ≤ 4611686018427387903

@@ -6,7 +6,7 @@ use Rattle.tree_defs.specs.Topology.{Topology, topology_of, topologies_of, compl
 use Rattle.tree_defs.proofs.Shapes.{topology_of-same, topology_of-empty, same_shape, LeadsToLeaf-topology, depth-topology}
 use Rattle.tree_defs.proofs.TopologyLaws.{leaf_at, deep_leaf}
 use Rattle.tree_defs.specs.SourceTree.{empty_tree}
-use Rattle.target_defs.specs.Family.{Family, IsEmpty, IsLeafAddress}
+use Rattle.embed_defs.specs.Family.{Family, IsEmpty, IsLeafAddress}
 use Rattle.embed_defs.specs.Images.{image_at, image_map}
 use Rattle.embed_defs.specs.Embedding.{IsEmbedding}
 use Rattle.embed_defs.specs.Lift.{IsLift}

@@ -1,6 +1,6 @@
 -- The contents of a fabric after events, if a policy's tree is laid into the fabric.
 use Rattle.std.specs.Prelude.{◌≡◌, ◌+◌, ◌⊎◌, Option, None, Some, option_map, List, ◌++◌}
-use Rattle.target_defs.specs.Family.{SameQueues}
+use Rattle.embed_defs.specs.Family.{SameQueues}
 use Rattle.embed_defs.specs.Images.{image_map}
 use Rattle.embed_defs.specs.Lift.{IsLift}
 use Rattle.policy_defs.specs.Policy.{Policy}

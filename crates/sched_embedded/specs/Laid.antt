@@ -3,7 +3,7 @@ use Rattle.std.specs.Prelude.{◌≡◌, ◌+◌, ℕ, List, [], length, slice_g
 use Rattle.tree_defs.specs.Tree.{Tree, Address, LeadsToLeaf, SameShape}
 use Rattle.tree_defs.specs.SourceTree.{SourceTree, push, pop, IsWellFormed}
 use Rattle.tree_core.specs.Paths.{Way}
-use Rattle.target_defs.specs.Family.{Family, IsLeafAddress}
+use Rattle.embed_defs.specs.Family.{Family, IsLeafAddress}
 use Rattle.embed_defs.specs.Images.{image_map}
 use Rattle.embed_defs.specs.Lift.{IsLift}
 use Rattle.embed_defs.specs.GoodMaps.{IsGoodMap}

@@ -2,8 +2,8 @@
 ghost use Rattle.std.specs.Prelude.{◌≡◌, ◌^◌, ◌<◌, IfOk, OnErr};
 ghost use Rattle.tree_defs.specs.Tree.{SameShape};
 ghost use Rattle.tree_defs.specs.Topology.{topology_of, complete};
-ghost use Rattle.target_defs.specs.Family.{SameQueues};
-ghost use Rattle.target_defs.specs.Target.{IsInRange};
+ghost use Rattle.embed_defs.specs.Family.{SameQueues};
+ghost use Rattle.embed_defs.specs.Target.{IsInRange};
 ghost use Rattle.embed_defs.specs.Images.{image_map};
 ghost use Rattle.embed_defs.specs.Embedding.{IsEmbedding};
 ghost use Rattle.embed_defs.specs.GoodMaps.{IsGoodMap};

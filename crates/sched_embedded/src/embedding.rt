@@ -2,7 +2,7 @@
 ghost use Rattle.std.specs.Prelude.{◌≡◌, ◌+◌, ◌^◌, ◌<◌, ◌≤◌, length, IfOk, IfSome, IfNone};
 ghost use Rattle.tree_defs.specs.Tree.{LeadsToLeaf, depth};
 ghost use Rattle.tree_defs.specs.SourceTree.{push, pop};
-ghost use Rattle.target_defs.specs.Family.{IsLeafAddress, HasRoomAlong, AreRanks, SameQueues};
+ghost use Rattle.embed_defs.specs.Family.{IsLeafAddress, HasRoomAlong, AreRanks, SameQueues};
 ghost use Rattle.embed_defs.specs.Images.{image_map};
 ghost use Rattle.embed_defs.specs.Spilling.{push_spills};
 ghost use Rattle.embed_core.specs.Lanes.{IsLaneTo, IsLeafLane, AreLeafLanes};

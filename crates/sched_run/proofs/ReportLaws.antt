@@ -3,7 +3,7 @@ use Rattle.std.proofs.Common.{◌≡◌, ℕ, ◌+◌, Option, None, Some, List,
 use Rattle.std.specs.Prelude.{IfSome}
 use Rattle.outside_core.specs.Written.{Appended}
 use Rattle.outside_core.proofs.WrittenLaws.{appended_in_turn}
-use Rattle.report_defs.specs.Text.{IsCut}
+use Rattle.outside_core.specs.Text.{IsCut}
 use Rattle.report_core.specs.Gathered.{Gathered, text_of}
 use Rattle.report_core.proofs.TextLaws.{IsCut-append, IsCut-longer}
 use Rattle.tree_defs.specs.SourceTree.{size}

@@ -1,7 +1,7 @@
 -- The results of a run: its events, its ending and its report.
 use Rattle.std.specs.Prelude.{◌≡◌, ℕ, ◌+◌, Bool, Option, Some, None, List, map, IfSome}
 use Rattle.outside_core.specs.Written.{Appended}
-use Rattle.report_defs.specs.Text.{IsCut}
+use Rattle.outside_core.specs.Text.{IsCut}
 use Rattle.policy_defs.specs.Policy.{Policy}
 use Rattle.sched_defs.specs.SourceState.{SourceState}
 use Rattle.sched_defs.specs.Events.{Event}

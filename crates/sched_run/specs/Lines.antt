@@ -3,7 +3,7 @@ use Rattle.std.specs.Prelude.{◌≡◌, ℕ, ◌+◌, Option, None, Some, List,
 use Rattle.std.proofs.Common.{sym, ap, ◌∙◌, subst, arith, append_assoc, append-nil}
 use Rattle.outside_core.specs.Written.{Appended}
 use Rattle.outside_core.proofs.WrittenLaws.{appended_nothing, appended_in_turn}
-use Rattle.report_defs.specs.Text.{IsCut, appended}
+use Rattle.outside_core.specs.Text.{IsCut, appended}
 use Rattle.report_core.specs.Gathered.{Gathered, text_of}
 use Rattle.report_core.proofs.TextLaws.{IsCut-append, IsCut-longer}
 use Rattle.policy_defs.specs.Policy.{Policy}

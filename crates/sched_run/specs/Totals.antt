@@ -1,6 +1,6 @@
 -- The totals of the last line.
 use Rattle.std.specs.Prelude.{◌≡◌, ◌≤◌, ◌<◌, ◌^◌, ◌==◌, ℕ, ◌+◌, if◌then◌else◌, Some, None, List, codes}
-use Rattle.report_defs.specs.Report.{end_line, fault_line}
+use Rattle.outside_core.specs.Report.{end_line, fault_line}
 use Rattle.sched_defs.specs.declared.ending.Ending.{Ending}
 use Rattle.sched_defs.specs.declared.ending.Ending.TheVariants.{Whole, BadCapture, PastLast}
 use Rattle.sched_defs.specs.Report.{past_last}

@@ -6,7 +6,7 @@ use Rattle.std.proofs.lemmas.Bool.{eq-eqb, ne_eqb, eqb-true, eqb-false}
 use Rattle.tree_defs.specs.Tree.{Address, option_bind}
 use Rattle.tree_defs.specs.Topology.{after}
 use Rattle.tree_defs.proofs.TopologyLaws.{after-append, after-is}
-use Rattle.pifo_defs.specs.Queue.{Entry}
+use Rattle.tree_defs.specs.Queue.{Entry}
 use Rattle.size_core.specs.declared.hop.Hop.{Hop}
 use Rattle.size_core.specs.declared.limits.Limits.{Limits}
 use Rattle.size_core.specs.declared.limits.Limit.{Limit}

@@ -8,7 +8,7 @@ use Rattle.size_core.specs.declared.queues.Queues.{Queues}
 use Rattle.size_core.specs.declared.limits.Limits.{Limits}
 use Rattle.size_core.specs.declared.limits.Passed.{Passed}
 use Rattle.size_core.specs.Limits.{first_of}
-use Rattle.pifo_defs.specs.Queue.{Queue}
+use Rattle.tree_defs.specs.Queue.{Queue}
 use Rattle.size_core.specs.Use.{Use, pushed}
 use Rattle.size_core.specs.Hops.{Uses, Watched, rank_on, value_on, passed_at, pushed_at, pushed_along, popped_along, popped_at}
 use Rattle.size_core.specs.Watching.{Has, Follows}

@@ -1,8 +1,8 @@
 -- The use of a queue, push by push and pop by pop.
 use Rattle.std.proofs.Common.{◌≡◌, ◌≤◌, ◌<◌, ◌+◌, ◌-◌, ◌==◌, ℕ, zero, suc, nat_le, max, min, Bool, true, false, if◌then◌else◌, Option, None, Some, List, [], ◌∷◌, ◌++◌, length, get_or, set, drop, refl, ap, sym, ◌∙◌, subst, arith, inl, inr}
 use Rattle.std.proofs.lemmas.Bool.{cases_lt, ne_eqb}
-use Rattle.pifo_defs.specs.Queue.{Entry, Queue, Taking, put, sooner, take_from, take_least}
-use Rattle.pifo_defs.proofs.TakeLeast.{NoneBelow, NoneBelow-le, take_from-front, take_from-behind, take_from-least}
+use Rattle.tree_defs.specs.Queue.{Entry, Queue, Taking, put, sooner, take_from, take_least}
+use Rattle.tree_defs.proofs.TakeLeast.{NoneBelow, NoneBelow-le, take_from-front, take_from-behind, take_from-least}
 use Rattle.std.specs.Prelude.{option_map}
 use Rattle.size_core.specs.Stores.{Stores, leads, flow_of, store_popped}
 use Rattle.size_core.specs.Use.{Use, highest, lowest_from, spread, taken, popped}

@@ -1,7 +1,7 @@
 -- What a sizing stands for.
 use Rattle.std.specs.Prelude.{◌≡◌, ◌≤◌, ◌<◌, ℕ, max, Option, option_map, unwrap_or, IfSome, Vec, List, [], ◌∷◌, length, slice_get}
 use Rattle.std.specs.declared.alloc.Global.{Global}
-use Rattle.pifo_defs.specs.Queue.{Queue}
+use Rattle.tree_defs.specs.Queue.{Queue}
 use Rattle.sched_defs.specs.Events.{Outcome}
 use Rattle.size_core.specs.declared.limits.Limits.{Limits}
 use Rattle.size_core.specs.declared.hop.Hop.{Hop}

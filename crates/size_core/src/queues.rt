@@ -1,7 +1,7 @@
 //! The queues of the nodes that packets pass.
 ghost use Rattle.std.specs.Prelude.{◌≡◌, ◌<◌, length, IfOk, IfSome, OnOk};
 ghost use Rattle.std.specs.List.{AllByRecursion};
-ghost use Rattle.target_defs.specs.Target.{IsArity};
+ghost use Rattle.embed_defs.specs.Target.{IsArity};
 ghost use Rattle.size_core.specs.Stores.{spills_in};
 ghost use Rattle.size_core.specs.Paths.{address_in};
 ghost use Rattle.size_core.specs.Sizes.{stores_at};

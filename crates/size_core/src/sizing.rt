@@ -39,7 +39,7 @@ impl Sizing {
     ghost use Rattle.tree_defs.specs.Topology.{topology_of};
     ghost use Rattle.packet_defs.specs.declared.packet.Packet.{Packet};
     ghost use Rattle.sched_defs.specs.Events as run;
-    ghost use Rattle.target_defs.specs.Target.{IsInRange};
+    ghost use Rattle.embed_defs.specs.Target.{IsInRange};
     ghost use Rattle.embed_defs.specs.GoodMaps.{IsGoodMap};
     ghost use Rattle.size_core.specs.Hops.{Watched};
     ghost use Rattle.size_core.specs.Watching.{Watches, WatchesAll};

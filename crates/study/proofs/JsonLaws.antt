@@ -5,7 +5,7 @@ use Rattle.outside_core.specs.Kept.{Begins}
 use Rattle.outside_core.specs.Written.{Appended, AppendedPrefix}
 use Rattle.outside_core.specs.declared.stop.Stop.{Stop}
 use Rattle.outside_core.proofs.WrittenLaws.{appended_nothing, prefix_of_nothing}
-use Rattle.report_defs.specs.Text.{IsCut}
+use Rattle.outside_core.specs.Text.{IsCut}
 use Rattle.report_core.specs.Gathered.{text_of}
 use Rattle.policy_rules.specs.Resolved.{Resolved}
 use Rattle.sched_defs.specs.SourceState.{start}

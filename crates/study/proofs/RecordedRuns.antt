@@ -4,7 +4,7 @@ use Rattle.std.specs.Prelude.{IfSome, IfOk, OnOk, OnErr}
 use Rattle.outside_core.specs.Written.{Appended, AppendedPrefix}
 use Rattle.outside_core.specs.declared.stop.Stop.{Stop}
 use Rattle.outside_core.proofs.WrittenLaws.{prefix_of_nothing, appended_nothing}
-use Rattle.report_defs.specs.Text.{appended}
+use Rattle.outside_core.specs.Text.{appended}
 use Rattle.pcap_defs.specs.Contents.{FileContents, no_capture, holds}
 use Rattle.pcapng_defs.specs.NgContents.{in_file}
 use Rattle.policy_defs.specs.Policy.{Policy}
@@ -18,7 +18,7 @@ use Rattle.sched_defs.specs.declared.ending.Ending.{Ending}
 use Rattle.sched_defs.proofs.Soundness.{sound_start}
 use Rattle.sched_defs.proofs.Runs.{outcomes-append}
 use Rattle.sched_core.specs.declared.scheduler.Scheduler.{Ghosts}
-use Rattle.sched_packets.specs.Arrivals.{Begins}
+use Rattle.sched_capture.specs.Arrivals.{Begins}
 use Rattle.sched_run.specs.declared.recorder.Recorder as recorder
 use Rattle.sched_run.specs.declared.pace.Pace as code
 use Rattle.sched_run.specs.Recording.{AreJoined}

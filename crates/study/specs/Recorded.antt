@@ -7,8 +7,8 @@ use Rattle.sched_defs.specs.Events.{Event, outcomes, CanMake}
 use Rattle.sched_defs.specs.Packets.{Captured}
 use Rattle.sched_defs.specs.declared.ending.Ending.{Ending}
 use Rattle.sched_core.specs.declared.scheduler.Scheduler as scheduler
-use Rattle.sched_packets.specs.CapturePackets.{policy_of, given_by, IsReady}
-use Rattle.sched_packets.specs.declared.capture_packets.CapturePackets.{CapturePackets}
+use Rattle.sched_capture.specs.CapturePackets.{policy_of, given_by, IsReady}
+use Rattle.sched_capture.specs.declared.capture_packets.CapturePackets.{CapturePackets}
 use Rattle.sched_run.specs.declared.recorder.Recorder as recorder
 use Rattle.sched_run.specs.declared.run.Run.{Run}
 use Rattle.sched_run.specs.Recording.{Recording, Cutting}

@@ -2,7 +2,7 @@
 use Rattle.std.specs.Prelude.{◌≡◌, ◌⊎◌, ◌≤◌, ℕ, length, Option, None, Some, List, [], ◌++◌, codes, Result, Ok}
 use Rattle.outside_core.specs.Written.{Appended}
 use Rattle.outside_core.specs.declared.stop.Stop.{Stop}
-use Rattle.report_defs.specs.Report.{fault_line}
+use Rattle.outside_core.specs.Report.{fault_line}
 use Rattle.sched_defs.specs.SourceState.{start}
 use Rattle.sched_defs.specs.Events.{Event, outcomes}
 use Rattle.sched_defs.specs.Pace.{Pace, Script, Link}

@@ -1,7 +1,7 @@
 //! The inputs of a study, each read only when it is needed.
 ghost use Rattle.std.specs.Prelude.{◌<◌, ◌∷◌, [], IfOk, IfSome};
 ghost use Rattle.tree_defs.specs.Topology.{topology_of};
-ghost use Rattle.target_defs.specs.Target.{IsInRange};
+ghost use Rattle.embed_defs.specs.Target.{IsInRange};
 ghost use Rattle.replay_app.specs.Policies.{judged_of};
 ghost use Rattle.replay_app.specs.Statuses.{IsOneOf, run_statuses, status_code};
 ghost use Rattle.replay_app.specs.Words.{AreLent, WhereTold};

@@ -3,7 +3,7 @@ ghost use Rattle.std.specs.Prelude.{◌≡◌, ◌<◌, ◌∷◌, IfOk, IfSome,
 ghost use Rattle.outside_core.specs.Faults.{Rose};
 ghost use Rattle.outside_core.specs.Kept.{KeepsSink};
 ghost use Rattle.outside_core.specs.Written.{Appended};
-ghost use Rattle.report_defs.specs.Text.{IsCut};
+ghost use Rattle.outside_core.specs.Text.{IsCut};
 ghost use Rattle.report_core.specs.Gathered.{text_of};
 ghost use Rattle.policy_defs.specs.Accepted.{IsAccepted};
 ghost use Rattle.sched_defs.specs.SendTime.{IsRate};

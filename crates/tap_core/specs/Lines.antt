@@ -1,6 +1,6 @@
 -- The line that a tap prints.
 use Rattle.std.specs.Prelude.{ℕ, List, [], ◌∷◌, map, decimal, codes}
-use Rattle.report_defs.specs.Report.{line_of}
+use Rattle.outside_core.specs.Report.{line_of}
 use Rattle.tap_core.specs.declared.kinds.TapKind.{TapKind}
 use Rattle.tap_core.specs.declared.kinds.TapKind.TheVariants.{Bytes, Order, First, Drops}
 

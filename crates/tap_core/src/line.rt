@@ -1,6 +1,6 @@
 //! The line that a tap prints.
 ghost use Rattle.std.specs.Prelude.{◌≡◌, ◌++◌, OnOk, OnErr};
-ghost use Rattle.report_defs.specs.Report.{line_of};
+ghost use Rattle.outside_core.specs.Report.{line_of};
 ghost use Rattle.tap_core.specs.Lines.{words_of};
 
 use std::alloc::AllocError;

@@ -3,7 +3,7 @@ use Rattle.std.proofs.Common.{ℕ, zero, suc, ◌≤◌, List, [], ◌∷◌, le
 use Rattle.std.specs.List.{AllByRecursion}
 use Rattle.std.proofs.lemmas.List.{length-replicate}
 use Rattle.toml.specs.Data.{Items, no_items, item, Members}
-use Rattle.target_defs.specs.Target.{IsArity, least_arity, most_arity, most_height}
+use Rattle.embed_defs.specs.Target.{IsArity, least_arity, most_arity, most_height}
 use Rattle.target_core.specs.Laws.{AcceptedTargetsAreInRange}
 use Rattle.target_core.specs.TargetText.{AreArities, first_arity, GivesArities, one_arity, each_arity}
 

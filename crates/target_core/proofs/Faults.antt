@@ -3,7 +3,7 @@ use Rattle.std.proofs.Common.{◌≡◌, ◌≢◌, ℕ, ◌≤◌, ◌<◌, Lis
 use Rattle.toml.specs.Data.{array, Items, Members, get_member}
 use Rattle.toml.specs.View.{items_view}
 use Rattle.toml.specs.declared.value.Value.{Value}
-use Rattle.target_defs.specs.Target.{leaves}
+use Rattle.embed_defs.specs.Target.{leaves}
 use Rattle.target_core.specs.TargetText.{IsToml, keys, AreArities, GivesArities, one_arity, each_arity, IsRefused, not_toml, off_keys, large}
 use Rattle.target_core.specs.Codes.{code_of}
 use Rattle.target_core.specs.Faults.{IsNoToml, IsKeyFault}

@@ -1,7 +1,7 @@
 -- A text parses as one table, and a table gives one target.
 use Rattle.std.proofs.Common.{◌≡◌, ℕ, pos, List, [], ◌∷◌, Some, codes, refl, sym, ap, subst, ◌∙◌, arith}
 use Rattle.toml.specs.Data.{integer, array, Items, no_items, item, Members, get_member}
-use Rattle.target_defs.specs.Target.{leaves}
+use Rattle.embed_defs.specs.Target.{leaves}
 use Rattle.target_core.specs.Laws.{TextsHaveOneAnswer}
 use Rattle.target_core.specs.TargetText.{IsToml, HasNumber, AreArities, first_arity, GivesArities, one_arity, each_arity, IsTargetText, IsOffKeys, IsRefused, too_long, not_toml, off_keys, large}
 

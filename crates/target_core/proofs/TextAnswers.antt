@@ -5,7 +5,7 @@ use Rattle.std.proofs.lemmas.Str.{IsUtf8-from_is_utf8, is_utf8-from_IsUtf8}
 use Rattle.std.specs.Str.{is_utf8}
 use Rattle.toml.specs.Data.{Data, string, integer, float, boolean, datetime, array, table, Items, no_items, item, Members, get_member}
 use Rattle.toml.specs.Parse.{parse_document}
-use Rattle.target_defs.specs.Target.{leaves}
+use Rattle.embed_defs.specs.Target.{leaves}
 use Rattle.target_core.specs.Laws.{TextsHaveAnAnswer}
 use Rattle.target_core.specs.TargetText.{IsToml, keys, HasNumber, AreArities, first_arity, GivesArities, one_arity, each_arity, IsTargetText, IsRefused, too_long, not_toml, off_keys, large}
 

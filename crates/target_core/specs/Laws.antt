@@ -1,6 +1,6 @@
 -- Consequences of the definition of a target's text.
 use Rattle.std.specs.Prelude.{◌≡◌, ◌⊎◌, ℕ, List}
-use Rattle.target_defs.specs.Target.{IsInRange}
+use Rattle.embed_defs.specs.Target.{IsInRange}
 use Rattle.target_core.specs.TargetText.{IsTargetText, IsRefused}
 
 -- a text gives one target or has one error, and never both

@@ -3,7 +3,7 @@
 use Rattle.std.specs.Prelude.{◌≡◌, ℕ, suc, ◌≤◌, ◌<◌, pos, List, [], ◌∷◌, length, replicate, Some, codes, IsUtf8}
 use Rattle.toml.specs.Data.{integer, array, Items, no_items, item, Members, no_members, member, get_member}
 use Rattle.toml.specs.Parse.{parse_document}
-use Rattle.target_defs.specs.Target.{leaves, least_arity, most_arity, most_height, most_leaves}
+use Rattle.embed_defs.specs.Target.{leaves, least_arity, most_arity, most_height, most_leaves}
 use Rattle.target_core.specs.declared.fault.TargetFault.TheVariants.{NotToml, Key, Large, TooLong}
 use Rattle.target_core.specs.Codes.{code_of}
 

@@ -1,7 +1,7 @@
 //! The number of leaves of a target.
 ghost use Rattle.std.specs.Prelude.{◌≤◌, ◌↔◌, IsTrue};
 ghost use Rattle.std.specs.List.{AllByRecursion};
-ghost use Rattle.target_defs.specs.Target.{IsArity, leaves, most_leaves};
+ghost use Rattle.embed_defs.specs.Target.{IsArity, leaves, most_leaves};
 
 /// The greatest number of leaves of a target.
 const MOST_LEAVES: u32 = 65_536;

@@ -1,7 +1,7 @@
 //! Parses a target's text.
 ghost use Rattle.std.specs.Prelude.{IfOk, IfErr, ◌≢◌};
 ghost use Rattle.toml.specs.View.{table_view};
-ghost use Rattle.target_defs.specs.Target.{IsInRange};
+ghost use Rattle.embed_defs.specs.Target.{IsInRange};
 ghost use Rattle.target_core.specs.TargetText.{IsToml, IsTargetText, IsRefused};
 ghost use Rattle.target_core.specs.Codes.{code_of};
 ghost use Rattle.target_core.specs.Faults.{IsNoToml};

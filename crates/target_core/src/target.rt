@@ -1,6 +1,6 @@
 //! Complete trees with an arity for each level.
 ghost use Rattle.std.specs.Prelude.{◌≡◌, length};
-ghost use Rattle.target_defs.specs.Levels.{levels};
+ghost use Rattle.embed_defs.specs.Levels.{levels};
 
 use list_core::List;
 

@@ -1,7 +1,7 @@
 -- One step of a push down a source tree along an address, with the ranks.
 use Rattle.std.proofs.Common.{◌≡◌, ℕ, ◌+◌, ◌-◌, ◌<◌, ◌≤◌, ◌^◌, List, [], ◌∷◌, length, get_or, take, drop, set, refl, sym, ap, ◌∙◌, subst, arith}
 use Rattle.std.proofs.lemmas.List.{take_all}
-use Rattle.pifo_defs.specs.Queue.{Queue, put}
+use Rattle.tree_defs.specs.Queue.{Queue, put}
 use Rattle.tree_defs.specs.Tree.{inner, Trees, LeadsToLeaf}
 use Rattle.tree_defs.specs.SourceTree.{push, push_child, IsWellFormed}
 use Rattle.tree_defs.proofs.WellFormedLaws.{IsWellFormed-push}

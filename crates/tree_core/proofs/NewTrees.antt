@@ -1,7 +1,7 @@
 -- A new tree has its topology and empty queues.
 use Rattle.std.proofs.Common.{◌≡◌, ℕ, zero, suc, ◌+◌, ◌<◌, ◌≤◌, List, [], ◌∷◌, ◌++◌, length, get_or, take, map, Vec, Global, refl, sym, ap, ◌∙◌, subst, arith}
 use Rattle.std.proofs.lemmas.List.{map_more}
-use Rattle.pifo_defs.specs.Queue.{Queue}
+use Rattle.tree_defs.specs.Queue.{Queue}
 use Rattle.tree_defs.specs.Tree.{Tree, inner, Trees, none, more, trees_of, nodes, nodes_below, depth, depth_below}
 use Rattle.tree_defs.specs.SourceTree.{IsWellFormed}
 use Rattle.pifo_core.specs.Sorted.{Contents}

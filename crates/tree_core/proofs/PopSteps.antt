@@ -3,10 +3,10 @@
 use Rattle.std.proofs.Common.{◌≡◌, ℕ, zero, suc, ◌+◌, ◌<◌, ◌≤◌, ◌^◌, List, [], ◌∷◌, ◌++◌, length, get_or, set, Some, refl, sym, ap, ◌∙◌, subst, arith, inl, inr, append-nil, append_assoc}
 use Rattle.std.specs.Prelude.{option_map}
 use Rattle.std.proofs.lemmas.Bool.{cases_lt}
-use Rattle.pifo_defs.specs.Queue.{Queue, Taking, take_least, take_from}
+use Rattle.tree_defs.specs.Queue.{Queue, Taking, take_least, take_from}
 use Rattle.tree_defs.specs.Tree.{Tree, inner, Trees, none, more, Popping, HasChild, depth, depth_below, nodes, nodes_below}
 use Rattle.tree_defs.specs.SourceTree.{pop, pop_child, of_leaf, of_inner, of_first, of_later, NamesChildren, size, times, IsWellFormed, AreWellFormed}
-use Rattle.pifo_defs.proofs.TakeLeast.{take_from-front, take_from-behind}
+use Rattle.tree_defs.proofs.TakeLeast.{take_from-front, take_from-behind}
 use Rattle.tree_defs.proofs.WellFormedLaws.{taken_names}
 use Rattle.tree_defs.proofs.WellFormedLaws.{IsWellFormed-pop, length-size, times-taken}
 use Rattle.pifo_core.specs.Sorted.{Contents}

@@ -2,7 +2,7 @@
 -- that child.
 use Rattle.std.proofs.Common.{◌≡◌, ℕ, zero, suc, ◌+◌, ◌-◌, ◌<◌, ◌≤◌, ◌^◌, List, [], ◌∷◌, length, get_or, take, drop, set, refl, sym, ap, ◌∙◌, subst, arith}
 use Rattle.std.proofs.lemmas.List.{take_all}
-use Rattle.pifo_defs.specs.Queue.{Queue, put}
+use Rattle.tree_defs.specs.Queue.{Queue, put}
 use Rattle.tree_defs.specs.Tree.{Tree, inner, Trees, more, LeadsToLeaf, LeadsBelow}
 use Rattle.tree_defs.specs.SourceTree.{push, push_child, IsWellFormed}
 use Rattle.tree_defs.proofs.WellFormedLaws.{IsWellFormed-push}

@@ -1,7 +1,7 @@
 -- A reserve leaves the tree unchanged, and makes room on the path.
 use Rattle.std.proofs.Common.{◌≡◌, ℕ, zero, suc, ◌-◌, ◌<◌, ◌≤◌, List, [], ◌∷◌, length, get_or, take, drop, set, refl, sym, ap, ◌∙◌, subst, arith, Result, Ok, Err, OnOk}
 use Rattle.std.proofs.lemmas.List.{take_all}
-use Rattle.pifo_defs.specs.Queue.{Queue}
+use Rattle.tree_defs.specs.Queue.{Queue}
 use Rattle.tree_defs.specs.Tree.{Tree, more, LeadsToLeaf}
 use Rattle.tree_defs.specs.SourceTree.{IsWellFormed}
 use Rattle.pifo_core.specs.Sorted.{Contents}

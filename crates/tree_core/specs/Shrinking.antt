@@ -1,7 +1,7 @@
 -- A child's tree has fewer nodes than its parent's.
 use Rattle.std.specs.Prelude.{◌+◌, ◌≤◌, List, [], ◌∷◌}
 use Rattle.std.proofs.Common.{arith}
-use Rattle.pifo_defs.specs.Queue.{Queue}
+use Rattle.tree_defs.specs.Queue.{Queue}
 use Rattle.tree_defs.specs.Tree.{Tree, leaf, inner, nodes, nodes_below}
 use Rattle.pifo_core.specs.Sorted.{Contents}
 use Rattle.tree_core.specs.TreeContents.{TreeContents, forest, grown, size_of}

@@ -1,7 +1,7 @@
 -- The contents of a source tree, as contracts see them.
 use Rattle.std.specs.Prelude.{ℕ, ◌<◌, ◌≤◌, ◌≡◌, ◌^◌, Some, List, [], ◌∷◌, ◌++◌, refl}
 use Rattle.std.specs.Coded.{Coded, code_by, coded×, coded_ℕ}
-use Rattle.pifo_defs.specs.Queue.{Queue}
+use Rattle.tree_defs.specs.Queue.{Queue}
 use Rattle.tree_defs.specs.Tree.{Tree, leaf, inner, Trees, none, more, nodes, Popping}
 use Rattle.tree_defs.specs.SourceTree.{IsWellFormed, pop}
 use Rattle.tree_defs.specs.Codes.{tree_code, source_tree_code}

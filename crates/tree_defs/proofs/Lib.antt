@@ -6,3 +6,4 @@ pub mod PacketLaws
 pub mod TopologyLaws
 pub mod Laws
 pub mod OneMoreLaws
+pub mod TakeLeast

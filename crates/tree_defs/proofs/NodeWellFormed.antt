@@ -1,6 +1,6 @@
 -- A tree is well formed if each inner node is.
 use Rattle.std.proofs.Common.{◌≡◌, ℕ, zero, suc, ◌+◌, [], ◌∷◌, Some, refl, ap, ◌∙◌, subst, arith}
-use Rattle.pifo_defs.specs.Queue.{Queue}
+use Rattle.tree_defs.specs.Queue.{Queue}
 use Rattle.tree_defs.specs.Tree.{leaf, inner, Trees, none, more, Address, child, subtree, subtree_in}
 use Rattle.tree_defs.specs.SourceTree.{SourceTree, size, times, IsWellFormed, AreWellFormed}
 use Rattle.tree_defs.specs.Laws.{IsWellFormedAt}

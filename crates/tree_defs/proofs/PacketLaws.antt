@@ -2,9 +2,9 @@
 use Rattle.std.proofs.Common.{◌≡◌, ◌≢◌, ℕ, zero, suc, ◌+◌, List, [], ◌∷◌, ◌++◌, map, length, Some, refl, sym, ap, ◌∙◌, subst, arith}
 use Rattle.std.specs.Prelude.{option_map, slice_index, drop}
 use Rattle.std.proofs.lemmas.List.{map-append}
-use Rattle.pifo_defs.specs.Queue.{Entry, Queue, put, Taking, take_least}
-use Rattle.pifo_defs.specs.Laws.{LeavesFrom}
-use Rattle.pifo_defs.proofs.TakeLeast.{take_least-splits}
+use Rattle.tree_defs.specs.Queue.{Entry, Queue, put, Taking, take_least}
+use Rattle.tree_defs.specs.QueueLaws.{LeavesFrom}
+use Rattle.tree_defs.proofs.TakeLeast.{take_least-splits}
 use Rattle.tree_defs.specs.Tree.{Tree, leaf, inner, Trees, none, more, Address, Popping, LeadsToLeaf, LeadsBelow}
 use Rattle.tree_defs.specs.Topology.{Topology}
 use Rattle.tree_defs.specs.SourceTree.{empty_tree, empty_trees, push, push_child, pop, pop_child, of_leaf, of_inner, of_first, of_later}

@@ -2,7 +2,7 @@
 use Rattle.std.proofs.Common.{◌≡◌, ℕ, zero, suc, ◌+◌, List, [], ◌∷◌, length, Some, refl, ap, ◌∙◌, subst, arith}
 use Rattle.std.specs.Prelude.{drop}
 use Rattle.std.specs.Option.{option_map}
-use Rattle.pifo_defs.specs.Queue.{Queue, Taking, take_least}
+use Rattle.tree_defs.specs.Queue.{Queue, Taking, take_least}
 use Rattle.tree_defs.specs.Tree.{Tree, leaf, inner, Trees, none, more, Address, Popping, LeadsToLeaf, LeadsBelow, SameShape, SameShapes, depth, depth_below, nodes, nodes_below}
 use Rattle.tree_defs.specs.Topology.{Topology, topology_of, topologies_of}
 use Rattle.tree_defs.specs.SourceTree.{empty_tree, empty_trees, push, push_child, pop, pop_child, of_leaf, of_inner, of_first, of_later}

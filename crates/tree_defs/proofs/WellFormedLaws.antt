@@ -2,8 +2,8 @@
 use Rattle.std.proofs.Common.{◌≡◌, ◌≢◌, ℕ, zero, suc, ◌+◌, ◌<◌, ◌≤◌, ◌↔◌, List, [], ◌∷◌, length, Some, None, refl, sym, ap, ◌∙◌, subst, arith, inl, inr, eq-eqb}
 use Rattle.std.specs.Prelude.{option_map, slice_index, drop}
 use Rattle.std.proofs.lemmas.Bool.{cases_lt, ne_eqb}
-use Rattle.pifo_defs.specs.Queue.{Queue, put, Taking, take_least, take_from}
-use Rattle.pifo_defs.proofs.TakeLeast.{take_from-front, take_from-behind, length-put, length-rest}
+use Rattle.tree_defs.specs.Queue.{Queue, put, Taking, take_least, take_from}
+use Rattle.tree_defs.proofs.TakeLeast.{take_from-front, take_from-behind, length-put, length-rest}
 use Rattle.tree_defs.specs.Tree.{Tree, leaf, inner, Trees, none, more, root_of, Popping, LeadsToLeaf, LeadsBelow, HasChild}
 use Rattle.tree_defs.specs.Topology.{Topology}
 use Rattle.tree_defs.specs.SourceTree.{empty_tree, empty_trees, push, push_child, pop, pop_child, of_leaf, of_inner, of_first, of_later, NamesChildren, size, sizes, times, IsWellFormed, AreWellFormed, IsInRange, AreInRange}

@@ -3,8 +3,8 @@ use Rattle.std.specs.Prelude.{◌≡◌}
 use Rattle.std.specs.Coded.{Coded}
 use Rattle.std.proofs.Common.{ap, refl}
 use base.Stored.{Gv, gnil, gnum, gcons}
-use Rattle.pifo_defs.specs.Queue.{Queue}
-use Rattle.pifo_defs.specs.Codes.{queue_code}
+use Rattle.tree_defs.specs.Queue.{Queue}
+use Rattle.tree_defs.specs.QueueCodes.{queue_code}
 use Rattle.tree_defs.specs.Tree.{Tree, leaf, inner, Trees, none, more}
 
 module _ {Q : Type 0} (c : Coded Q) where

@@ -1,6 +1,6 @@
 -- Laws that follow from the definitions of topologies and source trees.
 use Rattle.std.specs.Prelude.{◌≡◌, ◌≢◌, ◌↔◌, ◌+◌, ℕ, List, [], ◌++◌, length, Some, None, slice_index}
-use Rattle.pifo_defs.specs.Queue.{Queue, put, take_least}
+use Rattle.tree_defs.specs.Queue.{Queue, put, take_least}
 use Rattle.tree_defs.specs.Tree.{leaf, inner, Trees, Address, child, root_of, subtree, IsAddressOf, LeadsToLeaf, SameShape, Popping}
 use Rattle.tree_defs.specs.Topology.{Topology, topology_of, after, complete, IsWithin}
 use Rattle.tree_defs.specs.SourceTree.{SourceTree, empty_tree, push, pop, size, times, NamesChildren, IsWellFormed}

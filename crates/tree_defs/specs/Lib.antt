@@ -4,3 +4,6 @@ pub mod SourceTree
 pub mod Packets
 pub mod Codes
 pub mod Laws
+pub mod Queue
+pub mod QueueLaws
+pub mod QueueCodes

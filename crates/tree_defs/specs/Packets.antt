@@ -1,6 +1,6 @@
 -- The packets queued in a source tree.
 use Rattle.std.specs.Prelude.{ℕ, zero, suc, ◌≡◌, refl, List, [], ◌∷◌, ◌++◌, map}
-use Rattle.pifo_defs.specs.Queue.{Queue}
+use Rattle.tree_defs.specs.Queue.{Queue}
 use Rattle.tree_defs.specs.Tree.{Tree, leaf, inner, Trees, none, more, Address}
 use Rattle.tree_defs.specs.SourceTree.{after_two, inverted}
 

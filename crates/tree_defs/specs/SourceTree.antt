@@ -1,7 +1,7 @@
 -- Trees of push-in first-out queues (OOPSLA 2023), with packet numbers at the leaves and children's
 -- indices at the inner nodes.
 use Rattle.std.specs.Prelude.{ℕ, zero, suc, ◌+◌, ◌≡◌, refl, List, [], ◌∷◌, length, Option, Some, None, option_map, nat_eq, slice_index, drop, if◌then◌else◌}
-use Rattle.pifo_defs.specs.Queue.{Queue, put, take_least, Taking}
+use Rattle.tree_defs.specs.Queue.{Queue, put, take_least, Taking}
 use Rattle.tree_defs.specs.Tree.{Tree, leaf, inner, Trees, none, more, HasChild, Popping, option_bind}
 use Rattle.tree_defs.specs.Topology.{Topology}
 

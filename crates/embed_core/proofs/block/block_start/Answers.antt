@@ -4,7 +4,7 @@ use Rattle.tree_defs.specs.Tree.{trees_of}
 use Rattle.tree_defs.specs.Topology.{IsWithin}
 use Rattle.embed_defs.specs.Need.{leaves_below}
 use Rattle.embed_defs.specs.Counting.{value}
-use Rattle.target_defs.specs.Levels.{down_from}
+use Rattle.embed_defs.specs.Levels.{down_from}
 use Rattle.embed_core.specs.Range.{levels_of}
 use Rattle.embed_core.proofs.TargetArities.{positive}
 use Rattle.embed_defs.proofs.LeafNumbers.{value-zeros, zeros-within}

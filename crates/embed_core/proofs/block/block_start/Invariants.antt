@@ -3,7 +3,7 @@ use Rattle.tree_defs.specs.Tree.{trees_of}
 use Rattle.tree_defs.specs.Topology.{IsWithin}
 use Rattle.embed_defs.specs.Canonical.{start_of, children}
 use Rattle.embed_defs.specs.Counting.{value}
-use Rattle.target_defs.specs.Levels.{down_from}
+use Rattle.embed_defs.specs.Levels.{down_from}
 use Rattle.embed_core.specs.Range.{levels_of}
 use Rattle.embed_core.proofs.block.block_start.Given as goal
 

@@ -2,7 +2,7 @@ use Rattle.std.proofs.Common.{◌≡◌, ◌+◌, length}
 use Rattle.tree_defs.specs.Topology.{IsWithin}
 use Rattle.embed_defs.specs.Need.{leaves_below}
 use Rattle.embed_defs.specs.Counting.{value}
-use Rattle.target_defs.specs.Levels.{down_from}
+use Rattle.embed_defs.specs.Levels.{down_from}
 use Rattle.embed_core.specs.Range.{levels_of}
 use Rattle.embed_core.proofs.block.skip_block.Given as goal
 

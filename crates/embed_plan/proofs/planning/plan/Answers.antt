@@ -1,7 +1,7 @@
 use Rattle.std.proofs.Common.{ℕ, List, length, ◌++◌, ◌∙◌, ap, sym, subst}
 use Rattle.std.specs.Prelude.{true, false, Err}
 use Rattle.tree_defs.specs.Topology.{Topology, complete}
-use Rattle.target_defs.specs.Levels.{levels}
+use Rattle.embed_defs.specs.Levels.{levels}
 use Rattle.embed_defs.specs.Embedding.{HasEmbedding}
 use Rattle.embed_defs.specs.Need.{IsNeed}
 use Rattle.embed_defs.specs.Canonical.{IsCanonical}

@@ -1,10 +1,10 @@
 use Rattle.std.proofs.Common.{◌-◌, ◌+◌, arith}
 use Rattle.std.proofs.lemmas.Grind.{common_steps}
-use Rattle.capture_core.specs.Rest.{rest_of}
-use Rattle.capture_core.specs.Held.{held}
+use Rattle.pcap_core.specs.Rest.{rest_of}
+use Rattle.pcap_core.specs.Held.{held}
 use Rattle.pcapng_core.proofs.OptionReads.{passes-as}
 use Rattle.pcapng_core.proofs.OptionSteps.{same-more, unit-ends, unit-gives, unit-few}
-use Rattle.capture_core.proofs.Windows.{passes-more}
+use Rattle.pcap_core.proofs.Windows.{passes-more}
 use Rattle.pcapng_core.proofs.options.read_unit.Goals as goal
 
 pub returns-in-Ends-clause-unit : goal.returns-in-Ends-clause-unit

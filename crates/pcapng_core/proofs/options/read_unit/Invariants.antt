@@ -1,7 +1,7 @@
 use Rattle.std.proofs.Common.{◌≤◌, ◌-◌}
-use Rattle.capture_core.specs.Rest.{rest_of, Serves}
-use Rattle.capture_core.specs.Held.{held}
-use Rattle.capture_core.specs.Passed.{Passes}
+use Rattle.pcap_core.specs.Rest.{rest_of, Serves}
+use Rattle.pcap_core.specs.Held.{held}
+use Rattle.pcap_core.specs.Passed.{Passes}
 use Rattle.pcapng_core.specs.Options.{SameUnit}
 use Rattle.pcapng_core.proofs.options.read_unit.Given as goal
 

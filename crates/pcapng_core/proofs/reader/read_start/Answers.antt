@@ -1,13 +1,13 @@
 use Rattle.std.proofs.Common.{◌≡◌, List, ℕ, subst, IfSome}
 use Rattle.pcapng_defs.specs.NgCapture.{front_of, broken}
 use Rattle.pcapng_core.specs.Faults.{fault_in}
-use Rattle.capture_core.specs.Rest.{rest_of}
-use Rattle.capture_core.specs.Held.{held}
+use Rattle.pcap_core.specs.Rest.{rest_of}
+use Rattle.pcap_core.specs.Held.{held}
 use Rattle.pcapng_core.specs.Carries.{carried_of}
 use Rattle.pcapng_core.specs.Blocks.{IsStart}
 use Rattle.pcapng_core.proofs.Starts.{start-taken, starts-broken}
 use Rattle.pcapng_core.proofs.Refusals.{err-passed}
-use Rattle.capture_core.proofs.Takes.{taken-first, short-first}
+use Rattle.pcap_core.proofs.Takes.{taken-first, short-first}
 use Rattle.pcapng_core.proofs.reader.read_start.Goals as goal
 
 pub returns-in_err-start_in-clause-fault : goal.returns-in_err-start_in-clause-fault

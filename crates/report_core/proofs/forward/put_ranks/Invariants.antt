@@ -1,5 +1,5 @@
 use Rattle.std.proofs.Common.{◌≡◌, ◌+◌, ◌*◌, ◌≤◌, ◌++◌, length, take, drop}
-use Rattle.report_defs.specs.Report.{ranks_text}
+use Rattle.outside_core.specs.Report.{ranks_text}
 use Rattle.report_core.proofs.Ranks.{later_ranks}
 use Rattle.report_core.proofs.forward.put_ranks.Given as goal
 

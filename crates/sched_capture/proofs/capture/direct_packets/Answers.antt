@@ -1,7 +1,7 @@
 use Rattle.std.proofs.Common.{arith, rules}
 use Rattle.std.proofs.lemmas.Result.{err_from_is_err_and}
 use Rattle.outside_core.proofs.KeptLaws.{sink-same}
-use Rattle.sched_packets.specs.CapturePackets.{left_of}
+use Rattle.sched_capture.specs.CapturePackets.{left_of}
 use Rattle.sched_run.specs.Steps.{pace_of}
 use Rattle.sched_capture.specs.Answers.{answer_of}
 use Rattle.sched_capture.proofs.Refusals.{unreported}

@@ -2,7 +2,7 @@ use Rattle.std.proofs.Common.{ap, ◌∙◌}
 use Rattle.std.proofs.lemmas.Option.{IfSome_then}
 use Rattle.std.proofs.lemmas.Result.{err_from_is_err_and}
 use Rattle.report_core.proofs.WholeTexts.{cut_part, cut_end, whole_end}
-use Rattle.sched_packets.specs.SingleLinkType.{left_of, captures_of, there}
+use Rattle.sched_capture.specs.SingleLinkType.{left_of, captures_of, there}
 use Rattle.sched_run.proofs.JoinedEvents.{made_all}
 use Rattle.sched_capture.specs.JoinedRecords.{records_heard}
 use Rattle.sched_capture.specs.Forwards.{forward_ending, forward_events}

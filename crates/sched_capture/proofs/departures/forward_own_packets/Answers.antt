@@ -1,5 +1,5 @@
 use Rattle.std.proofs.Common.{arith}
-use Rattle.sched_packets.specs.SingleLinkType.{left_of, link_of, captures_of}
+use Rattle.sched_capture.specs.SingleLinkType.{left_of, link_of, captures_of}
 use Rattle.sched_capture.proofs.FileRuns.{outside_after}
 use Rattle.sched_capture.proofs.ForwardFiles.{cut_header, cut_records, none_sent, all_records}
 use Rattle.sched_capture.proofs.departures.forward_own_packets.Goals as goal

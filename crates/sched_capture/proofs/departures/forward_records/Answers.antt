@@ -2,7 +2,7 @@ use Rattle.std.proofs.Common.{Some, inr, arith, rules}
 use Rattle.std.proofs.lemmas.Option.{IfSome_then}
 use Rattle.std.proofs.lemmas.Result.{on_ok_weaker, on_err_weaker}
 use Rattle.outside_core.proofs.KeptLaws.{sink-same}
-use Rattle.sched_packets.specs.SingleLinkType.{left_of, link_of, captures_of}
+use Rattle.sched_capture.specs.SingleLinkType.{left_of, link_of, captures_of}
 use Rattle.sched_embedded.specs.Fabrics.{LeavesPart}
 use Rattle.sched_embedded.specs.Laid.{Laid}
 use Rattle.sched_capture.specs.Forwards.{forward_through}

@@ -1,5 +1,5 @@
 use Rattle.std.proofs.lemmas.Result.{IfOk-weaker}
-use Rattle.sched_packets.specs.CapturePackets.{left_of}
+use Rattle.sched_capture.specs.CapturePackets.{left_of}
 use Rattle.sched_run.specs.Steps.{pace_of, IsNoPastLast, CanEndSo}
 use Rattle.sched_capture.proofs.FileRuns.{can_end, report_of_file, watched_of_file, unwatched, outside_after}
 use Rattle.sched_capture.proofs.Refusals.{refused_report}

@@ -2,7 +2,7 @@ use Rattle.std.proofs.Common.{Some, inr, arith, rules}
 use Rattle.std.proofs.lemmas.Option.{IfSome_then}
 use Rattle.std.proofs.lemmas.Result.{on_ok_weaker, on_err_weaker, err_from_is_err_and}
 use Rattle.outside_core.proofs.KeptLaws.{sink-same}
-use Rattle.sched_packets.specs.CapturePackets.{left_of}
+use Rattle.sched_capture.specs.CapturePackets.{left_of}
 use Rattle.sched_run.specs.Steps.{pace_of}
 use Rattle.sched_embedded.specs.Fabrics.{LeavesPart}
 use Rattle.sched_embedded.specs.Laid.{Laid}

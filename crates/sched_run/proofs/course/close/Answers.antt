@@ -1,7 +1,7 @@
 use Rattle.std.proofs.Common.{List, ℕ, [], subst, append-nil}
 use Rattle.outside_core.specs.Written.{Appended}
 use Rattle.outside_core.proofs.WrittenLaws.{appended_in_turn}
-use Rattle.report_defs.specs.Text.{IsCut}
+use Rattle.outside_core.specs.Text.{IsCut}
 use Rattle.report_core.specs.Gathered.{text_of}
 use Rattle.outside_core.proofs.KeptLaws.{sink-then}
 use Rattle.report_core.proofs.TextLaws.{IsCut-append}

@@ -1,7 +1,7 @@
 use Rattle.std.proofs.Common.{arith}
 use Rattle.std.proofs.lemmas.Bool.{false≢true}
 use Rattle.std.proofs.Math.Nat.{mul-le-mul_left}
-use Rattle.target_defs.proofs.LeafCounts.{narrow_at, counted_next, too_many}
+use Rattle.embed_defs.proofs.LeafCounts.{narrow_at, counted_next, too_many}
 use Rattle.target_core.proofs.leaves.has_few_leaves.Goals as goal
 
 pub overflow_mul-count : goal.overflow_mul-count

@@ -1,5 +1,5 @@
 use Rattle.std.proofs.Common.{◌≡◌, ◌*◌, ◌≤◌, drop}
-use Rattle.target_defs.specs.Target.{leaves}
+use Rattle.embed_defs.specs.Target.{leaves}
 use Rattle.target_core.proofs.leaves.has_few_leaves.Given as goal
 
 abbrev pub invariant-loop-arity : goal.invariant-loop-arity

@@ -1,7 +1,7 @@
 use Rattle.std.proofs.Common.{◌≤◌, ◌<◌, length, arith}
 use Rattle.std.proofs.lemmas.Result.{err_from_is_err_and}
 use Rattle.toml.specs.View.{table_view}
-use Rattle.target_defs.specs.Target.{leaves}
+use Rattle.embed_defs.specs.Target.{leaves}
 use Rattle.target_core.specs.TargetText.{too_long}
 use Rattle.target_core.proofs.ArityRanges.{narrow_target, in_range-holds}
 use Rattle.target_core.proofs.Faults.{refused_toml, refused_keys, refused_leaves}

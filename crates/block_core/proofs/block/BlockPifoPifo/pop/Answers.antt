@@ -1,7 +1,7 @@
 use Rattle.std.proofs.Common.{[], Some, ◌≡◌, ◌+◌, ◌-◌, ◌∷◌, ◌∙◌, ℕ, rules, arith, ap, sym, subst, drop, length, map, heap_items, heap_len, deque_items, deque_len, deque_capacity, get_or, set}
 use Rattle.std.specs.List.{AllByRecursion}
 use Rattle.std.specs.declared.cmp.Reverse.{Reverse}
-use Rattle.pifo_defs.specs.Queue.{take_least}
+use Rattle.tree_defs.specs.Queue.{take_least}
 use Rattle.block_core.specs.declared.waiting.Waiting.{Waiting}
 use Rattle.block_core.specs.Arrival.{weight, Precedes}
 use Rattle.block_core.specs.Stores.{head_of}

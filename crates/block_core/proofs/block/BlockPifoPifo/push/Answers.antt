@@ -3,7 +3,7 @@ use Rattle.std.specs.BinaryHeap.{KeepsHeap}
 use Rattle.std.specs.List.Sorted.{IsPermutation}
 use Rattle.std.specs.declared.cmp.Reverse.{Reverse}
 use Rattle.std.proofs.lemmas.Bool.Decides.{nat_tests}
-use Rattle.pifo_defs.specs.Queue.{put}
+use Rattle.tree_defs.specs.Queue.{put}
 use Rattle.block_core.specs.declared.waiting.Waiting.{Waiting}
 use Rattle.block_core.specs.Arrival.{weight}
 use Rattle.block_core.specs.Stores.{last_rank, head_of}

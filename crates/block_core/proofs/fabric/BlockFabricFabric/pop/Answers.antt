@@ -2,7 +2,7 @@ use Rattle.std.proofs.Common.{◌≡◌, [], ℕ, List, Some, true≢false, refl
 use Rattle.std.proofs.lemmas.List.{with_items_is}
 use Rattle.std.specs.Vec.{with_items}
 use Rattle.block_core.specs.Block.{Block}
-use Rattle.target_defs.specs.Family.{Pops}
+use Rattle.embed_defs.specs.Family.{Pops}
 use Rattle.fabric_core.specs.Array.{array_pop, queues_at, flows_at}
 use Rattle.fabric_core.specs.Flow.{HasFlows}
 use Rattle.block_core.specs.BlockTree.{BlockTree, block_queues, entries_of, pushes_of, flows_of}

@@ -3,8 +3,8 @@ use Rattle.std.proofs.lemmas.List.{with_items_is}
 use Rattle.std.specs.Vec.{with_items}
 use Rattle.std.specs.List.{AllByRecursion}
 use Rattle.block_core.specs.Block.{Block}
-use Rattle.target_defs.specs.Family.{IsLeafAddress, push_along, less_room_along}
-use Rattle.target_defs.specs.Spills.{spills_along}
+use Rattle.embed_defs.specs.Family.{IsLeafAddress, push_along, less_room_along}
+use Rattle.embed_defs.specs.Spills.{spills_along}
 use Rattle.fabric_core.specs.Array.{array_push, queues_at, room_at, flows_at, ArrayTakesRoom}
 use Rattle.fabric_core.specs.Flow.{HasFlows, IsFlow}
 use Rattle.block_core.specs.BlockTree.{BlockTree, block_queues, block_room, entries_of, pushes_of, spare_of, flows_of}

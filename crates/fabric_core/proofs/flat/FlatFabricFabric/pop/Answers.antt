@@ -2,7 +2,7 @@ use Rattle.std.proofs.Common.{◌≡◌, [], ℕ, List, Some, true≢false, refl
 use Rattle.std.proofs.lemmas.List.{with_items_is}
 use Rattle.std.specs.Vec.{with_items}
 use Rattle.pifo_core.specs.Sorted.{Contents}
-use Rattle.target_defs.specs.Family.{Pops}
+use Rattle.embed_defs.specs.Family.{Pops}
 use Rattle.fabric_core.specs.Array.{array_pop, queues_at}
 use Rattle.fabric_core.specs.Flat.{Flat, flat_queues, entries_of, pushes_of}
 use Rattle.fabric_core.proofs.FabricLaws.{popped_sound, popped_queues, root_within, root_queue}

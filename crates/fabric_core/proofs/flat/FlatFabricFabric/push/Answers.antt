@@ -3,7 +3,7 @@ use Rattle.std.proofs.lemmas.List.{with_items_is}
 use Rattle.std.specs.Vec.{with_items}
 use Rattle.std.specs.List.{AllByRecursion}
 use Rattle.pifo_core.specs.Sorted.{Contents}
-use Rattle.target_defs.specs.Family.{IsLeafAddress, push_along, less_room_along}
+use Rattle.embed_defs.specs.Family.{IsLeafAddress, push_along, less_room_along}
 use Rattle.fabric_core.specs.Array.{array_push, room_at, ArrayTakesRoom}
 use Rattle.fabric_core.specs.Flat.{Flat, flat_queues, flat_room, entries_of, pushes_of, spare_of}
 use Rattle.fabric_core.proofs.FabricLaws.{pushed_sound, pushed_queues}

@@ -1,6 +1,6 @@
 use Rattle.std.proofs.Common.{◌<◌, arith}
 use Rattle.pcap_defs.specs.Record.{most_records}
-use Rattle.capture_core.specs.declared.frame.LinkedFrame.{LinkedFrame}
+use Rattle.pcap_core.specs.declared.frame.LinkedFrame.{LinkedFrame}
 use Rattle.pcap_core.specs.Readers.{head_of, records_given, rest_left}
 use Rattle.pcap_core.specs.Left.{head_read}
 use Rattle.pcap_core.proofs.CapturesLeft.{comes-at, ends, leaves, halts}

@@ -1,5 +1,5 @@
 use Rattle.std.proofs.Common.{◌≡◌, ◌≤◌, ◌-◌, []}
-use Rattle.capture_core.specs.Rest.{Serves}
+use Rattle.pcap_core.specs.Rest.{Serves}
 use Rattle.pcapng_defs.specs.NgCapture.{most_blocks}
 use Rattle.pcapng_core.specs.Readers.{carry_of, rest_left, packets_given, is_live, GoesOn}
 use Rattle.pcapng_core.proofs.reader.NgReader.read_packet.Given as goal

@@ -2,7 +2,7 @@ use Rattle.std.proofs.Common.{◌≡◌, ◌≤◌, refl, ap, ◌∙◌, ◌+◌
 use Rattle.std.specs.BinaryHeap.{heap_capacity}
 use Rattle.std.specs.VecDeque.{deque_capacity}
 use Rattle.std.specs.declared.cmp.Reverse.{Reverse}
-use Rattle.pifo_defs.specs.Queue.{put}
+use Rattle.tree_defs.specs.Queue.{put}
 use Rattle.pifo_core.specs.declared.held.Held.{Held}
 use Rattle.pifo_core.specs.Held.{queue_of}
 use Rattle.pifo_core.specs.Heaped.{held_of_both, IsHeaped}

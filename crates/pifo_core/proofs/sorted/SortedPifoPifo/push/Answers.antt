@@ -1,5 +1,5 @@
 use Rattle.std.proofs.Common.{◌≡◌, ◌≤◌, ◌-◌, ap, ◌∙◌, arith, insert, IsOk, vec_len, vec_capacity}
-use Rattle.pifo_defs.specs.Queue.{put}
+use Rattle.tree_defs.specs.Queue.{put}
 use Rattle.pifo_core.specs.declared.held.Held.{Held}
 use Rattle.pifo_core.specs.Held.{queue_of}
 use Rattle.pifo_core.proofs.HeldLaws.{queue_of-inserted, IsKept-inserted}

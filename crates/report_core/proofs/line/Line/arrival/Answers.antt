@@ -1,5 +1,5 @@
 use Rattle.std.proofs.Common.{[], ◌∷◌, ◌++◌, take, decimal, ap, ◌∙◌}
-use Rattle.report_defs.specs.Report.{ranks_text}
+use Rattle.outside_core.specs.Report.{ranks_text}
 use Rattle.report_core.proofs.LineTexts.{five_words}
 use Rattle.report_core.proofs.line.Line.arrival.Goals as goal
 

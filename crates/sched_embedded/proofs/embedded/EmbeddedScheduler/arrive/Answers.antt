@@ -3,7 +3,7 @@ use Rattle.std.proofs.lemmas.Option.{slice_get_read}
 use Rattle.std.specs.Prelude.{slice_get}
 use Rattle.tree_defs.specs.Tree.{Tree, Address, LeadsToLeaf}
 use Rattle.tree_defs.specs.SourceTree.{SourceTree, push}
-use Rattle.target_defs.specs.Family.{AreRanks}
+use Rattle.embed_defs.specs.Family.{AreRanks}
 use Rattle.embed_defs.specs.Images.{image_map}
 use Rattle.embed_defs.specs.Lift.{IsLift}
 use Rattle.embed_defs.specs.Spilling.{push_spills}

@@ -1,6 +1,6 @@
 use Rattle.std.proofs.Common.{◌≡◌, None, refl, sym, ap, ◌∙◌, subst, arith}
 use Rattle.tree_defs.specs.SourceTree.{SourceTree, pop}
-use Rattle.target_defs.specs.Family.{Family}
+use Rattle.embed_defs.specs.Family.{Family}
 use Rattle.embed_defs.specs.Images.{image_map}
 use Rattle.embed_defs.specs.Lift.{IsLift}
 use Rattle.policy_defs.specs.Policy.{Policy}

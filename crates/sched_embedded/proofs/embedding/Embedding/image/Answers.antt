@@ -1,5 +1,5 @@
 use Rattle.std.proofs.Common.{sym, ◌∙◌, subst}
-use Rattle.target_defs.specs.Family.{IsLeafAddress}
+use Rattle.embed_defs.specs.Family.{IsLeafAddress}
 use Rattle.sched_embedded.specs.Laid.{Laid, IsLaid}
 use Rattle.sched_embedded.proofs.embedding.Embedding.image.Goals as goal
 

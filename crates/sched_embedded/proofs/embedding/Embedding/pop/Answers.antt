@@ -1,7 +1,7 @@
 use Rattle.std.proofs.Common.{◌≡◌, length, List, ℕ, refl, sym, ap, ◌∙◌, subst, arith}
 use Rattle.std.proofs.lemmas.List.{with_items_is}
 use Rattle.tree_defs.specs.Tree.{LeadsToLeaf}
-use Rattle.target_defs.specs.Family.{Pops}
+use Rattle.embed_defs.specs.Family.{Pops}
 use Rattle.embed_defs.specs.Images.{image_map}
 use Rattle.embed_defs.specs.Lift.{picked_ranks}
 use Rattle.embed_defs.specs.GoodMaps.{IsGoodMap}

@@ -1,8 +1,8 @@
 use Rattle.std.proofs.Common.{◌≡◌, ◌+◌, ◌<◌, length, List, ℕ, map, sym, ap, ◌∙◌, subst}
 use Rattle.std.specs.Prelude.{slice_index}
 use Rattle.std.specs.List.{AllByRecursion}
-use Rattle.target_defs.specs.Family.{AreRanks, push_along}
-use Rattle.target_defs.specs.Spills.{spills_along}
+use Rattle.embed_defs.specs.Family.{AreRanks, push_along}
+use Rattle.embed_defs.specs.Spills.{spills_along}
 use Rattle.embed_defs.specs.Images.{image_map}
 use Rattle.embed_defs.specs.Lift.{lift_ranks}
 use Rattle.embed_defs.specs.GoodMaps.{IsGoodMap}

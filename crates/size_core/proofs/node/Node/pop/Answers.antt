@@ -1,5 +1,5 @@
 use Rattle.std.proofs.Common.{◌≡◌, ◌-◌, ℕ, max, Option, None, Some, option_map, ap, sym, ◌∙◌, subst, refl, arith}
-use Rattle.pifo_defs.specs.Queue.{Queue, Taking, take_least}
+use Rattle.tree_defs.specs.Queue.{Queue, Taking, take_least}
 use Rattle.size_core.specs.Stores.{store_popped}
 use Rattle.size_core.specs.Use.{spread}
 use Rattle.size_core.proofs.UseLaws.{Popped, after_pop, has_taken}

@@ -1,5 +1,5 @@
 use Rattle.std.proofs.Common.{◌≡◌, ℕ, ◌+◌, ◌==◌, max, if◌then◌else◌, length, option_map, ap, sym, ◌∙◌, subst}
-use Rattle.pifo_defs.specs.Queue.{Queue, put}
+use Rattle.tree_defs.specs.Queue.{Queue, put}
 use Rattle.size_core.specs.Stores.{store_pushed}
 use Rattle.size_core.specs.Use.{spread}
 use Rattle.size_core.specs.Watching.{IsCrest}

@@ -1,5 +1,5 @@
 use Rattle.std.proofs.Common.{rules, ap, ◌∙◌, length, arith, ◌≡◌, ◌<◌, ◌^◌, get_or}
-use Rattle.pifo_defs.specs.Queue.{put}
+use Rattle.tree_defs.specs.Queue.{put}
 use Rattle.tree_defs.specs.SourceTree.{push}
 use Rattle.tree_core.specs.TreeContents.{TreeContents}
 use Rattle.tree_core.proofs.PushSteps.{leads_here}

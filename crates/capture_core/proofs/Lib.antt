@@ -1,3 +1,0 @@
-pub mod Windows
-pub mod Takes
-pub mod Holds

@@ -1,7 +1,0 @@
-use Rattle.std.proofs.Common.{arith}
-use Rattle.capture_core.proofs.Windows.{held-advanced}
-use Rattle.capture_core.proofs.window.Window.advance.Goals as goal
-
-pub returns-clause-passed : goal.returns-clause-passed
-returns-clause-passed c =
-    held-advanced c.args.self.now.buffer.items c.args.self.now.at c.args.self.now.end c.min-count.result (omega arith)

@@ -1,6 +1,0 @@
-pub mod Limits
-pub mod Held
-pub mod Rest
-pub mod Passed
-pub mod Captures
-pub mod Rows

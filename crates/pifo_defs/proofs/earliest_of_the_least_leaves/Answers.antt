@@ -1,5 +1,0 @@
-use Rattle.pifo_defs.proofs.TakeLeast.{earliest_of_the_least}
-use Rattle.pifo_defs.proofs.earliest_of_the_least_leaves.Goals as goal
-
-pub returns : goal.returns
-returns c = earliest_of_the_least

@@ -1,0 +1,40 @@
+-- A captured packet is read with its class and its flow.
+use Rattle.std.proofs.Common.{◌≡◌, ◌≤◌, ℕ, ◌+◌, Option, List, length, ap, sym, ◌∙◌, subst}
+use Rattle.std.specs.Prelude.{unwrap_or}
+use Rattle.pcap_defs.specs.Record.{most_captured}
+use Rattle.pcap_defs.specs.Contents.{Contents}
+use Rattle.rank_defs.specs.declared.environment.FlowKey.{FlowKey}
+use Rattle.pcap_core.specs.Captures.{packet_of as packet_of_frame, Comes}
+use Rattle.pcap_core.specs.declared.frame.LinkedFrame.{LinkedFrame}
+use Rattle.packet_defs.specs.declared.fields.Fields.{Fields}
+use Rattle.packet_defs.specs.declared.packet.Packet.{Packet}
+use Rattle.packet_defs.specs.Headers.{fields_of}
+use Rattle.packet_core.specs.Classes.{IsSorted}
+use Rattle.policy_rules.specs.Resolved.{Resolved}
+use Rattle.sched_defs.specs.Numbered.{IsSendable}
+use Rattle.sched_capture.specs.Packets.{class_given, packet_of}
+use Rattle.sched_capture.specs.NextPacket.{packet_told, IsNext}
+
+pub packet-is : (policy : Resolved) (f : LinkedFrame) (bytes : List ℕ) (old p : Packet) → old.number ≡ f.frame.number → old.len ≡ f.frame.len → old.moment ≡ f.frame.moment
+    → IsSorted policy (fields_of f.link bytes) old p → p ≡ packet_of policy f.frame.number (packet_of_frame f bytes)
+packet-is policy f bytes old p number len moment sorted =
+    let fields : Fields = fields_of f.link bytes in
+    let number_is : p.number ≡ f.frame.number = sorted.number ∙ number in
+    let len_is : p.len ≡ f.frame.len = sorted.len ∙ len in
+    let moment_is : p.moment ≡ f.frame.moment = sorted.moment ∙ moment in
+    let class_is : p.class ≡ class_given policy fields f.frame.len = sym (ap (λ o. unwrap_or o 0) sorted.class) ∙ ap (class_given policy fields) len in
+    ap (λ n. record { number = n; class = p.class; len = p.len; moment = p.moment; flow = p.flow }) number_is
+    ∙ ap (λ c. record { number = f.frame.number; class = c; len = p.len; moment = p.moment; flow = p.flow }) class_is
+    ∙ ap (λ n. record { number = f.frame.number; class = class_given policy fields f.frame.len; len = n; moment = p.moment; flow = p.flow }) len_is
+    ∙ ap (λ m. record { number = f.frame.number; class = class_given policy fields f.frame.len; len = f.frame.len; moment = m; flow = p.flow }) moment_is
+    ∙ ap (λ (k : FlowKey). record { number = f.frame.number; class = class_given policy fields f.frame.len; len = f.frame.len; moment = f.frame.moment; flow = k }) sorted.flow
+
+-- and it is the next one if its record is next
+pub next_of_record : (policy : Resolved) (n : ℕ) (old new : Option Contents) (f : LinkedFrame) (p : Packet) (bytes : List ℕ) → p ≡ packet_of policy (n + 1) (packet_of_frame f bytes)
+    → Comes old new (packet_of_frame f bytes) → IsSendable policy.policy p → length bytes ≤ most_captured → IsNext policy n old new f.link p bytes
+next_of_record policy n old new f p bytes is comes sendable short = record {
+  comes = subst (λ (q : Packet). Comes old new (packet_told f.link q bytes)) (sym is) comes;
+  packet = is ∙ ap (λ (q : Packet). packet_of policy (n + 1) (packet_told f.link q bytes)) (sym is);
+  sendable = sendable;
+  short = short;
+}

@@ -1,0 +1,24 @@
+use Rattle.std.proofs.Common.{◌≡◌, ◌+◌, arith}
+use Rattle.packet_core.specs.Classifier.{policy_of}
+use Rattle.pcap_core.specs.Captures.{packet_of as packet_told}
+use Rattle.sched_defs.specs.Numbered.{IsSendable}
+use Rattle.sched_capture.specs.Packets.{packet_of}
+use Rattle.sched_capture.proofs.RecordPackets.{next_of_record}
+use Rattle.sched_capture.proofs.arrivals.Arrivals.next_packet.Goals as goal
+
+pub returns-in-Some-clause-next : goal.returns-in-Some-clause-next
+returns-in-Some-clause-next g c =
+    let a = c.args.self.now in
+    let e = c.in_ok-read.ensures in
+    let n = g.R.CaptureReader.given a.reader in
+    let bytes = g.R.CaptureReader.captured_of c.next_in_place.new.self c.next_in_place.new.into.items in
+    let read = c.in-Some.read in
+    let p = c.put_packet.ensures in
+    let packet : c.put_packet.new.packet ≡ packet_of (policy_of a.classifier) (n + 1) (packet_told read bytes) = rw (rw c.in-Some.is at e.number, c.captured-captured.ensures, c.deref.ensures.value) at p.packet in
+    let sendable : IsSendable (policy_of a.classifier).policy c.put_packet.new.packet = record {
+      known = p.known;
+      moment = omega (arith, p.moment, rw c.in-Some.is at e.moment);
+    } in
+    rw (c.if-self.false) (next_of_record (policy_of a.classifier) n (g.R.CaptureReader.left a.reader (g.S.Shelf.left c.args.source.now)) (g.R.CaptureReader.left c.next_in_place.new.self (g.S.Shelf.left c.next_in_place.new.shelf))
+    read c.put_packet.new.packet bytes packet (rw c.in-Some.is at e.comes) sendable
+    (omega (arith, rw c.in-Some.is at e.captured, rw c.in-Some.is at e.short)))

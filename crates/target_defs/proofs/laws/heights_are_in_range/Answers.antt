@@ -1,5 +1,0 @@
-use Rattle.target_defs.proofs.LevelLaws.{heights_in_range-holds}
-use Rattle.target_defs.proofs.laws.heights_are_in_range.Goals as goal
-
-pub returns : goal.returns
-returns c = heights_in_range-holds
