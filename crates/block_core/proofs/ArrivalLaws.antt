@@ -1,15 +1,8 @@
 -- The order of arrival with one more entry.
-use Rattle.std.proofs.Common.{◌≡◌, ◌≢◌, ◌≤◌, ◌<◌, ◌+◌, inl, inr, ℕ, zero, suc, false, cond, eqb, ltb, ◌&&◌, List, [], ◌∷◌, ◌++◌, map, length, Some, refl, ap, sym, subst, ◌∙◌, arith}
-use Rattle.std.specs.List.{AllByRecursion}
-use Rattle.std.proofs.lemmas.Bool.{cases_Bool, cases_lt, lt-ltb, le-ltb, eqb-true, eq-eqb, ne_eqb}
-use Rattle.std.proofs.lemmas.Bool.Decides.{nat_tests}
+use Rattle.block_core.proofs.Prelude.{arith, ◌≡◌, sym, length, subst, ℕ, ◌∙◌, ap, [], refl, List, map, ◌+◌, ◌<◌, ◌∷◌, suc, zero, ◌++◌, ◌≤◌, Some, inl, inr, eqb, false, ltb, ◌&&◌, cond, ◌≢◌, cases_lt, le-ltb, lt-ltb, cases_Bool, eq-eqb, eqb-true, ne_eqb, nat_tests, append_assoc, AllByRecursion, put, take_least, weight, Precedes, came_as, in_order, pair, coming, IsNumbered, Waiting}
 use Rattle.std.proofs.Math.Nat.{eq-or-lt_of_le}
-use Rattle.std.proofs.lemmas.List.{append_assoc}
-use Rattle.tree_defs.specs.Queue.{put, take_least}
 use Rattle.tree_defs.proofs.TakeLeast.{AllAbove, AllFrom, take_least-split}
-use Rattle.block_core.specs.declared.waiting.Waiting.{Waiting}
-use Rattle.block_core.specs.Arrival.{weight, came_as, coming, in_order, pair, queue_of, Precedes}
-use Rattle.block_core.specs.Block.{IsNumbered}
+use Rattle.block_core.specs.Arrival.{queue_of}
 use Rattle.block_core.proofs.Weights.{weight-append, weight-none, none-weight}
 
 pub All-append : {X : Type 0} (P : X → Type 0) (xs ys : List X) → AllByRecursion P xs → AllByRecursion P ys → AllByRecursion P (xs ++ ys)

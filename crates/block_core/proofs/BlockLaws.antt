@@ -1,19 +1,9 @@
 -- A queue of rank stores after a push and after a pop.
-use Rattle.std.proofs.Common.{◌≡◌, ◌≤◌, ◌<◌, ◌+◌, inl, inr, ℕ, zero, suc, Bool, false, cond, eqb, ltb, ◌&&◌, ◌||◌, List, [], ◌∷◌, ◌++◌, map, length, get_or, set, Some, refl, ap, sym, subst, ◌∙◌, arith, length-set, get_or-set_same, get_or-set_other}
-use Rattle.std.specs.List.{AllByRecursion, list_any}
-use Rattle.std.specs.List.Sorted.{IsPermutation}
+use Rattle.block_core.proofs.Prelude.{arith, ◌≡◌, sym, length, subst, ℕ, ◌∙◌, ap, [], refl, List, map, ◌+◌, ◌<◌, ◌∷◌, get_or, suc, set, zero, ◌++◌, ◌≤◌, Some, inl, inr, eqb, false, ltb, ◌&&◌, Bool, cond, length-set, ◌||◌, get_or-set_other, get_or-set_same, cases_lt, le-ltb, lt-ltb, cases_Bool, eq-eqb, eqb-true, eqb-false, nat_tests, IsUpperBound, IsHeap, AllByRecursion, list_any, IsPermutation, Reverse, put, take_least, weight, Precedes, came_as, in_order, pair, held, IsBlock, IsCounted, queue_in, IsPassed, heap_order, spills_in, all_of, head_of, last_rank, flow_of, heads_of, waiting_in, IsFifo, IsStored, Waiting}
 use Rattle.std.specs.Ordering.{is_lt}
-use Rattle.std.specs.BinaryHeap.{IsHeap, IsUpperBound}
-use Rattle.std.specs.declared.cmp.Reverse.{Reverse}
-use Rattle.std.proofs.lemmas.Bool.{cases_Bool, cases_lt, lt-ltb, le-ltb, eqb-true, eqb-false, eq-eqb}
-use Rattle.std.proofs.lemmas.Bool.Decides.{nat_tests}
 use Rattle.std.proofs.lemmas.List.Sorted.{IsPermutation-map, All-permutation}
 use Rattle.std.proofs.lemmas.List.Elements.{All-from_recursion, recursion_from_All}
-use Rattle.tree_defs.specs.Queue.{put, take_least}
-use Rattle.block_core.specs.declared.waiting.Waiting.{Waiting}
-use Rattle.block_core.specs.Arrival.{weight, came_as, in_order, pair, queue_of, Precedes}
-use Rattle.block_core.specs.Stores.{waiting_in, head_of, heads_of, last_rank, IsFifo, flow_of, IsStored}
-use Rattle.block_core.specs.Block.{spills_in, held, all_of, queue_in, heap_order, IsPassed, IsBlock, IsCounted}
+use Rattle.block_core.specs.Arrival.{queue_of}
 use Rattle.block_core.proofs.Weights.{weight-append, weight-IsPermutation, weight-none, none-weight, weight-set, heads-set}
 use Rattle.block_core.proofs.ArrivalLaws.{All-append, All-weaker, same, same-self, numbered_all, numbered_more, numbered_fewer, weight-ordered, queue-pushed, queue-popped}
 use Rattle.block_core.proofs.StoreLaws.{last_rank-pushed, ranks_up_to, fifo-pushed, behind_all, last_rank-popped, stored_at, stored-set, IsHeadAt, head_found, heads_precede}

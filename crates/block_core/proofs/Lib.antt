@@ -1,3 +1,4 @@
+mod Prelude
 mod Weights
 mod ArrivalLaws
 mod StoreLaws

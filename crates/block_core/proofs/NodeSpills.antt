@@ -1,13 +1,6 @@
 -- The pushes that spill at a node of a fabric.
-use Rattle.std.proofs.Common.{◌≡◌, ◌<◌, ◌-◌, ◌&&◌, ◌||◌, Bool, ℕ, zero, suc, eqb, ltb, List, [], ◌∷◌, length, refl, ap, sym, subst, ◌∙◌, arith, inl, inr}
-use Rattle.std.proofs.lemmas.Bool.{cases_lt, lt-ltb, le-ltb}
-use Rattle.tree_defs.specs.Queue.{Queue}
-use Rattle.embed_defs.specs.Family.{IsLeafAddress}
+use Rattle.block_core.proofs.Prelude.{arith, ◌≡◌, sym, length, subst, ℕ, ◌∙◌, ap, [], refl, List, ◌<◌, ◌∷◌, suc, zero, inl, inr, ◌-◌, eqb, ltb, ◌&&◌, Bool, ◌||◌, cases_lt, le-ltb, lt-ltb, IsLeafAddress, nodes, NamesBelow, Queue, spills_in, flow_of}
 use Rattle.embed_defs.specs.Spills.{spills_for, spills_at_leaf}
-use Rattle.fabric_core.specs.Array.{nodes}
-use Rattle.fabric_core.specs.Flow.{NamesBelow}
-use Rattle.block_core.specs.Stores.{flow_of}
-use Rattle.block_core.specs.Block.{spills_in}
 
 -- a value below the number of flows has its own
 own_flow : (flows value : ℕ) → value < flows → flow_of flows value ≡ value

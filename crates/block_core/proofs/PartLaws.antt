@@ -1,11 +1,6 @@
 -- The stores as the code keeps them: reads and writes of one flow's store.
-use Rattle.std.proofs.Common.{◌≡◌, ◌≤◌, ◌<◌, ◌+◌, ℕ, zero, suc, List, [], ◌∷◌, ◌++◌, map, length, get_or, set, take, refl, ap, sym, subst, ◌∙◌, arith}
-use Rattle.std.specs.List.{AllByRecursion}
-use Rattle.std.proofs.lemmas.List.{map-set, get_or-map, length-map}
-use Rattle.block_core.specs.declared.waiting.Waiting.{Waiting}
-use Rattle.block_core.specs.Stores.{last_rank, flow_of}
+use Rattle.block_core.proofs.Prelude.{arith, ◌≡◌, sym, length, subst, ℕ, ◌∙◌, ap, [], refl, List, map, ◌+◌, ◌<◌, ◌∷◌, get_or, suc, set, zero, ◌++◌, ◌≤◌, take, length-map, map-set, get_or-map, AllByRecursion, HasSpare, IsPassed, rooms, last_rank, flow_of, Waiting}
 use Rattle.std.specs.declared.collections.VecDeque.{VecDeque}
-use Rattle.block_core.specs.Block.{HasSpare, rooms, IsPassed}
 
 module _ {A : Type 0} (items : A → List Waiting) (stores : List A) where
   -- the store that was read

@@ -1,10 +1,5 @@
 -- First-in first-out queues, one for each flow: an entry is added or removed.
-use Rattle.std.proofs.Common.{◌≡◌, ◌≤◌, ◌<◌, ◌+◌, ◌-◌, inl, inr, ℕ, zero, suc, List, [], ◌∷◌, ◌++◌, length, get_or, set, refl, ap, sym, ◌∙◌, arith}
-use Rattle.std.specs.List.{AllByRecursion}
-use Rattle.std.proofs.lemmas.Bool.{cases_lt}
-use Rattle.block_core.specs.declared.waiting.Waiting.{Waiting}
-use Rattle.block_core.specs.Arrival.{weight, Precedes}
-use Rattle.block_core.specs.Stores.{waiting_in, heads_of, last_rank, Follows, IsFifo, flow_of, IsStored}
+use Rattle.block_core.proofs.Prelude.{arith, ◌≡◌, sym, length, ℕ, ◌∙◌, ap, [], refl, List, ◌+◌, ◌<◌, ◌∷◌, get_or, suc, set, zero, ◌++◌, ◌≤◌, inl, inr, ◌-◌, cases_lt, AllByRecursion, weight, Precedes, last_rank, flow_of, heads_of, waiting_in, IsFifo, IsStored, Follows, Waiting}
 use Rattle.block_core.proofs.ArrivalLaws.{All-append, All-weaker, same, same-is}
 
 -- ---- one flow

@@ -1,12 +1,7 @@
 -- Sums of weights over the queued entries.
-use Rattle.std.proofs.Common.{◌≡◌, ◌<◌, ◌+◌, ℕ, zero, suc, List, [], ◌∷◌, ◌++◌, length, get_or, set, refl, sym, ◌∙◌, arith}
-use Rattle.std.specs.List.{AllByRecursion}
-use Rattle.std.specs.List.Sorted.{IsPermutation}
+use Rattle.block_core.proofs.Prelude.{arith, ◌≡◌, sym, length, ℕ, ◌∙◌, [], refl, List, ◌+◌, ◌<◌, ◌∷◌, get_or, suc, set, zero, ◌++◌, AllByRecursion, IsPermutation, weight, head_of, heads_of, waiting_in, Waiting}
 use Rattle.std.proofs.lemmas.List.Recursion.{is_sum_by}
 use Rattle.std.proofs.lemmas.List.Sorted.{sum_by-IsPermutation}
-use Rattle.block_core.specs.declared.waiting.Waiting.{Waiting}
-use Rattle.block_core.specs.Arrival.{weight}
-use Rattle.block_core.specs.Stores.{waiting_in, head_of, heads_of}
 
 pub weight-append : {X : Type 0} (f : X → ℕ) (xs ys : List X) → weight f (xs ++ ys) ≡ weight f xs + weight f ys
 weight-append f [] ys = omega arith

@@ -1,22 +1,5 @@
 -- The ranks with which a packet arrives are between the floors before its push and those after it.
-use Rattle.std.proofs.Common.{◌≡◌, ◌≤◌, ◌<◌, ℕ, zero, suc, Bool, true, false, List, [], ◌∷◌, ◌++◌, length, Some, refl, sym, ap, ◌∙◌, subst, arith, bytes_eq, append_assoc, append-nil, length-append}
-use Rattle.std.specs.Option.{option_map_or}
-use Rattle.std.specs.List.{AllByRecursion}
-use Rattle.std.proofs.lemmas.Slice.Eq.{bytes_eq-Decides}
-use Rattle.tree_defs.specs.Tree.{Tree, leaf, inner, Trees, none, more, Address, LeadsToLeaf, LeadsBelow, root_of}
-use Rattle.rank_defs.specs.declared.environment.Who.TheVariants.{Child, Flow}
-use Rattle.rank_defs.specs.Programs.{Program, max_rank}
-use Rattle.rank_defs.specs.States.{State}
-use Rattle.rank_defs.specs.Steps.{push_rank, after_push}
-use Rattle.rank_defs.specs.Shapes.{max_len}
-use Rattle.rank_defs.specs.Builtins.{fifo}
-use Rattle.packet_defs.specs.declared.packet.Packet.{Packet}
-use Rattle.policy_defs.specs.Policy.{Marks, no_marks, Node, Class, node_at, node_below}
-use Rattle.policy_defs.specs.Accepted.{AreMarksInRange, IsNodeReady}
-use Rattle.sched_defs.specs.Visits.{States, Visit, visit, env_for, child_marks, visits_from, visits_below, with_state, rank_at, ranks_pushed, after_pushes}
-use Rattle.sched_defs.proofs.Members.{all_joined}
-use Rattle.sched_defs.proofs.Visits.{IsVisitTo, IsPart, root_stands, visits_from-are}
-use Rattle.sched_defs.proofs.States.{AreStatesInRange}
+use Rattle.block_replay.proofs.Prelude.{refl, ◌≡◌, [], ℕ, ◌∙◌, arith, sym, ◌∷◌, List, Some, ap, subst, suc, zero, ◌≤◌, true, length, ◌++◌, false, Bool, ◌<◌, append-nil, bytes_eq, length-append, append_assoc, bytes_eq-Decides, AllByRecursion, option_map_or, Packet, IsNodeReady, AreMarksInRange, Node, node_at, Marks, no_marks, node_below, Class, fifo, Program, max_rank, max_len, State, push_rank, after_push, Child, Flow, all_joined, AreStatesInRange, IsVisitTo, visits_from-are, IsPart, root_stands, Visit, after_pushes, States, rank_at, with_state, child_marks, env_for, ranks_pushed, visit, visits_below, visits_from, Address, Tree, Trees, inner, leaf, none, more, root_of, LeadsToLeaf, LeadsBelow}
 use Rattle.block_replay.proofs.Steady.{floor, HasMarksOf}
 use Rattle.block_replay.proofs.SteadyNodes.{HasSteadyPrograms, HaveSteadyPrograms, steady_at}
 use Rattle.block_replay.proofs.TreeFloors.{AreRanksUnder, AreRanksOver}

@@ -1,15 +1,10 @@
 -- For given arguments and file contents there is exactly one correct output.
-use Rattle.std.proofs.Common.{refl, sym, ap, ◌∙◌}
+use Rattle.block_replay.proofs.Prelude.{refl, ◌∙◌, sym, ap, one-follows, some-follows, policies_are_one, rooms_are_one, targets_are_one, one-answer, same-answer, topology_of, shared, calm}
 use Rattle.report_core.specs.declared.fault.FaultKind.TheVariants as kind
-use Rattle.tree_defs.specs.Topology.{topology_of}
 use Rattle.target_core.proofs.ArityRanges.{in_range-holds}
-use Rattle.replay_app.proofs.FollowLaws.{one-follows, some-follows}
-use Rattle.replay_app.proofs.Inputs.{policies_are_one, targets_are_one, rooms_are_one}
-use Rattle.replay_app.proofs.OneAnswer.{one-answer, same-answer}
 use Rattle.replay_app.proofs.SomeAnswer.{some-answer, read_policies, read_targets, read_rooms, exactly}
 use Rattle.block_replay.specs.Laws.{HaveOneBlockAnswer, HaveABlockAnswer}
 use Rattle.block_replay.specs.Spills.{counted}
-use Rattle.block_replay.specs.Words.{shared, calm}
 
 pub one-block_answer : HaveOneBlockAnswer
 one-block_answer (shared form) contents taps a b x y = x.counted_is ∙ ap counted (one-answer form contents taps x.first y.first x.is y.is) ∙ sym y.counted_is

@@ -1,29 +1,11 @@
 -- A policy is calm if each of its nodes is.
-use Rattle.std.proofs.Common.{◌≡◌, ℕ, ◌+◌, ◌<◌, ◌↔◌, true, false, List, [], ◌∷◌, length, None, Some, refl, sym, ◌∙◌, subst, codes, arith, inl, inr}
-use Rattle.std.proofs.lemmas.Bool.{and_parts, and_from, cases_order, cases_Bool}
-use Rattle.std.specs.List.{Contains}
-use Rattle.std.specs.Prelude.{IsSomeAnd, ◌&&◌}
-use Rattle.tree_defs.specs.Tree.{Tree, leaf, inner, Trees, none, Address, IsAddressOf, LeadsToLeaf, root_of, subtree, nodes}
-use Rattle.tree_defs.specs.Topology.{topology_of}
-use Rattle.tree_defs.specs.SourceTree.{empty_tree}
-use Rattle.tree_defs.proofs.Shapes.{topology_of-empty, same_shape}
-use Rattle.tree_defs.proofs.TopologyLaws.{leaf_at, leads_to}
+use Rattle.block_replay.proofs.Prelude.{refl, ◌≡◌, [], ℕ, ◌∙◌, arith, sym, ◌∷◌, List, Some, subst, true, None, inl, inr, length, false, codes, ◌+◌, ◌<◌, ◌&&◌, ◌↔◌, and_parts, and_from, cases_Bool, cases_order, Contains, IsSomeAnd, number-undone, address_at, IsAccepted, AreBuiltIn, Node, node_at, Policy, same_name-is, same_name, same_shape, topology_of-empty, leads_to, leaf_at, empty_tree, topology_of, Address, Tree, Trees, inner, leaf, none, root_of, IsAddressOf, LeadsToLeaf, subtree, nodes, HaveOwnDigits, IsMapOf, NeverSpills, UsesSteadyAt, DifferBehind, UsesSteady, is_steady, steady, is_calm, node_using}
 use Rattle.embed_defs.proofs.EmbeddedMaps.{embeddings_are_good_maps}
-use Rattle.rank_defs.specs.Builtins.{same_name}
-use Rattle.rank_defs.proofs.Table.{same_name-is}
-use Rattle.policy_defs.specs.Accepted.{IsAccepted}
-use Rattle.policy_defs.specs.BuiltIn.{AreBuiltIn}
-use Rattle.policy_defs.specs.Policy.{Policy, Node, node_at}
 use Rattle.policy_defs.specs.Numbers.{number_at}
-use Rattle.policy_core.specs.Numbering.{address_at}
-use Rattle.policy_core.proofs.NumberedAddresses.{number-undone}
 use Rattle.sched_core.proofs.TreeParts.{node-of_part}
 use Rattle.mapcheck_core.proofs.ComposedImages.{placed-topology}
-use Rattle.block_replay.specs.CalmPolicies.{steady, is_steady, is_calm, node_using}
-use Rattle.block_replay.specs.CalmLaws.{DifferBehind, UsesSteady}
 use Rattle.block_replay.proofs.EachNode.{calm_at_each_node}
 use Rattle.block_replay.proofs.NeverSpills.{runs_never_spill}
-use Rattle.block_replay.specs.Calm.{IsMapOf, NeverSpills, UsesSteadyAt, HaveOwnDigits}
 use Rattle.block_replay.proofs.OwnDigits.{in_tree, own_differ, differ_own}
 
 -- ---- names

@@ -1,11 +1,5 @@
 -- Numbers clamped to a span from 0 on.
-use Rattle.std.proofs.Common.{◌≡◌, ◌≤◌, ℕ, refl, arith}
-use Rattle.std.specs.Prelude.{ℤ, pos, negsuc, ◌≤ℤ◌, unsigned_abs}
-use Rattle.std.specs.Int.{int_min, int_max}
-use Rattle.std.proofs.lemmas.Int.{ints, clamps}
-use Rattle.rank_defs.specs.Programs.{span}
-use Rattle.rank_defs.specs.Values.{num}
-use Rattle.rank_defs.specs.Steps.{clamped}
+use Rattle.block_replay.proofs.Prelude.{refl, ◌≡◌, ℕ, arith, ◌≤◌, clamps, ints, int_max, int_min, pos, ℤ, ◌≤ℤ◌, negsuc, unsigned_abs, span, clamped, num}
 
 unsigned_abs-rises : (x y : ℤ) → pos 0 ≤ℤ x → x ≤ℤ y → unsigned_abs x ≤ unsigned_abs y
 unsigned_abs-rises (pos a) (pos b) l h = omega (arith, ints)

@@ -1,16 +1,13 @@
 -- The outputs of the program over plain queues, followed by the spills of their runs.
-use Rattle.std.proofs.Common.{◌≡◌, ◌⊎◌, ℕ, zero, suc, ◌+◌, ◌-◌, Option, None, Some, List, [], ◌++◌, refl, sym, ap, ◌∙◌, subst, arith, inl, inr, append-nil}
+use Rattle.block_replay.proofs.Prelude.{refl, ◌≡◌, [], ℕ, ◌∙◌, arith, sym, List, Some, ap, subst, suc, zero, None, inl, inr, ◌++◌, Option, ◌+◌, append-nil, ◌⊎◌, ◌-◌, Ghosts, no_stop, each-follows, one-answer, Answer, IsGiven, refusal, HoldsLeft, UsesNoFabric, IsOutput, forward_run, laid_run, watchers, IsStop, status_code, forward_status, kind_status, no_form, Form, Pacing, check, direct, forward, link, plan, replay, script, soak, via, Event, Topology, IsBlockOutput, shared}
 use Rattle.outside_core.specs.Written.{Appended, AppendedPrefix}
 use Rattle.outside_core.proofs.WrittenLaws.{appended_in_turn, prefix_in_turn, prefix_of_longer}
 use Rattle.pcap_defs.specs.Contents.{FileContents, no_capture, holds}
 use Rattle.pcapng_defs.specs.NgContents.{in_file}
 use Rattle.report_core.specs.declared.fault.FaultKind.{FaultKind}
 use Rattle.report_core.specs.declared.fault.FaultKind.TheVariants as kind
-use Rattle.fabric_core.specs.declared.fabric.Fabric.{Ghosts}
-use Rattle.tree_defs.specs.Topology.{Topology}
 use Rattle.target_core.specs.declared.target.Target.{Target}
 use Rattle.policy_rules.specs.Resolved.{Resolved}
-use Rattle.sched_defs.specs.Events.{Event}
 use Rattle.sched_defs.specs.Pace.{Pace, Link}
 use Rattle.sched_defs.specs.declared.rate.LinkRate.{LinkRate}
 use Rattle.sched_defs.specs.SendTime.{plain_rate}
@@ -23,25 +20,15 @@ use Rattle.sched_capture.specs.Forwards.{forward_over}
 use Rattle.mapcheck_core.specs.declared.fault.MapFault.{MapFault}
 use Rattle.mapcheck_core.specs.declared.given.Given.{Given}
 use Rattle.tap_core.specs.Lists.{Entry}
-use Rattle.replay_app.specs.Answer.{Answer, refusal, IsGiven}
-use Rattle.replay_app.specs.Behind.{HoldsLeft, UsesNoFabric}
-use Rattle.replay_app.specs.Output.{IsOutput, laid_run, forward_run, watchers}
 use Rattle.replay_app.specs.Policies.{IsPolicy, IsPolicyRefused}
 use Rattle.replay_app.specs.Scripts.{script_pace, ending_status}
 use Rattle.replay_app.specs.Stages.{BehindRoom, BehindScript, BehindTarget, BehindTargetText, BehindWords}
-use Rattle.replay_app.specs.Statuses.{IsStop, status_code, kind_status, forward_status}
 use Rattle.replay_app.specs.Targets.{ForTarget}
 use Rattle.replay_app.specs.Via.{ForMap, ForTopology, IsMapRefused, IsTried, Unbroken, WithRoomAlong, names_of}
-use Rattle.replay_app.specs.Words.{Form, Pacing, script, link, forward, replay, check, plan, direct, soak, via, no_form}
 use Rattle.replay_app.specs.declared.status.Status.TheVariants.{Done}
-use Rattle.replay_app.proofs.AnswerLaws.{no_stop}
 use Rattle.replay_app.proofs.CaptureLaws.{whole_part}
-use Rattle.replay_app.proofs.FollowLaws.{each-follows}
-use Rattle.replay_app.proofs.OneAnswer.{one-answer}
 use Rattle.replay_app.proofs.Unused.{no_run}
-use Rattle.block_replay.specs.Output.{IsBlockOutput}
 use Rattle.block_replay.specs.Spills.{counted, run_spills, spills_line, spills_text}
-use Rattle.block_replay.specs.Words.{shared}
 
 -- ---- a run that ended whole exists
 -- if the status is 0, there is a run

@@ -1,15 +1,5 @@
 -- A policy is calm exactly if it is calm at each of its nodes.
-use Rattle.std.proofs.Common.{◌≡◌, ℕ, zero, suc, true, List, [], ◌∷◌, Some, refl, sym, ap, ◌∙◌, subst, inl, inr, codes}
-use Rattle.std.specs.Prelude.{length}
-use Rattle.std.specs.List.{list_any}
-use Rattle.std.proofs.lemmas.Bool.{and_parts, and_from, or_cases}
-use Rattle.tree_defs.specs.Tree.{Tree, leaf, inner, Trees, none, more, Address, subtree, subtree_in}
-use Rattle.rank_defs.specs.Builtins.{same_name}
-use Rattle.rank_defs.proofs.Table.{same_name-is, same_name-refl}
-use Rattle.policy_defs.specs.Policy.{Node}
-use Rattle.sched_defs.proofs.Members.{IsIn, in_of, contains_of}
-use Rattle.block_replay.specs.CalmPolicies.{steady, is_steady, has_steady_nodes, have_steady_nodes, digits_behind, all_differ, is_spread, are_spread}
-use Rattle.block_replay.specs.CalmLaws.{DifferBehind, UsesSteady, CalmAtEachNode}
+use Rattle.block_replay.proofs.Prelude.{refl, ◌≡◌, [], ℕ, ◌∙◌, sym, ◌∷◌, List, Some, ap, subst, suc, zero, true, inl, inr, length, codes, and_parts, and_from, or_cases, list_any, Node, same_name-is, same_name-refl, same_name, IsIn, contains_of, in_of, Address, Tree, Trees, inner, leaf, none, more, subtree, subtree_in, DifferBehind, UsesSteady, CalmAtEachNode, is_spread, all_differ, digits_behind, has_steady_nodes, is_steady, steady, are_spread, have_steady_nodes}
 use Rattle.block_replay.proofs.SpreadDigits.{or_later, differ-children, children-differ}
 
 -- ---- names

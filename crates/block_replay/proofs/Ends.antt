@@ -1,18 +1,9 @@
 -- The end of a program that runs nothing.
-use Rattle.std.proofs.Common.{◌≡◌, ◌⊎◌, ℕ, Option, None, List, [], ◌∷◌, refl, ap, arith, inl, inr}
-use Rattle.std.specs.Prelude.{Result, Ok, Err, IfOk, IsErrOf}
+use Rattle.block_replay.proofs.Prelude.{refl, ◌≡◌, [], ℕ, arith, ◌∷◌, List, ap, None, inl, inr, Option, ◌⊎◌, Err, IfOk, IsErrOf, Ok, Result, Ghosts, is_stop, no_stop, each-follows, unchanged, Answer, IsGiven, IsTold, HoldsLeft, IsStop, status_code, IsOneOf, IsCalmTold, end_status}
 use Rattle.outside_core.specs.declared.stop.Stop.{Stop}
 use Rattle.outside_core.specs.declared.stop.Stop.TheVariants.{Source, Sink, Memory}
 use Rattle.report_core.specs.declared.fault.FaultKind.TheVariants as kind
-use Rattle.fabric_core.specs.declared.fabric.Fabric.{Ghosts}
-use Rattle.replay_app.specs.Answer.{Answer, IsGiven, IsTold}
-use Rattle.replay_app.specs.Behind.{HoldsLeft}
-use Rattle.replay_app.specs.Statuses.{IsOneOf, IsStop, status_code}
 use Rattle.replay_app.specs.declared.status.Status.{Status}
-use Rattle.replay_app.proofs.AnswerLaws.{is_stop, no_stop}
-use Rattle.replay_app.proofs.FollowLaws.{each-follows, unchanged}
-use Rattle.block_replay.specs.Output.{IsCalmTold}
-use Rattle.block_replay.specs.Words.{end_status}
 
 -- ---- statuses
 pub ends_given : (output : Answer → Type 0) (r : Result Status Stop) (old new : Option (List ℕ)) → IsTold output r old new → IsGiven output (end_status r) old new

@@ -1,11 +1,6 @@
 -- If images are spread, each child of a node has its own first digit after the node's image.
-use Rattle.std.proofs.Common.{◌≡◌, ◌≢◌, ℕ, zero, suc, true, List, [], ◌∷◌, length, drop, Some, refl, sym, ap, ◌∙◌}
-use Rattle.std.specs.Prelude.{slice_index}
-use Rattle.std.proofs.lemmas.Bool.{and_parts}
-use Rattle.tree_defs.specs.Tree.{Tree, leaf, inner, Trees, none, more, Address, child, root_of}
-use Rattle.embed_defs.specs.Placed.{Placement, Placements, part}
+use Rattle.block_replay.proofs.Prelude.{refl, ◌≡◌, [], ℕ, ◌∙◌, sym, ◌∷◌, List, Some, ap, suc, zero, true, length, drop, ◌≢◌, and_parts, slice_index, Placement, Placements, part, Address, Tree, Trees, inner, leaf, none, more, root_of, child, is_spread, all_differ, digits_behind, are_spread}
 use Rattle.embed_defs.specs.Lifting.{relative, relatives}
-use Rattle.block_replay.specs.CalmPolicies.{digits_behind, all_differ, is_spread, are_spread}
 use Rattle.block_replay.proofs.SpreadDigits.{differ-children}
 
 -- no two children begin with the same digit

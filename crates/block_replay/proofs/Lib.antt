@@ -1,3 +1,4 @@
+pub mod Prelude
 pub mod Clamping
 pub mod Steady
 pub mod SteadyBuiltins

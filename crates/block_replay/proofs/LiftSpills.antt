@@ -1,29 +1,19 @@
 -- Along the lift a push spills nowhere, if each child has its own digit and no entry of a child is
 -- above its floor.
-use Rattle.std.proofs.Common.{◌≡◌, ◌≢◌, ◌≤◌, ℕ, zero, suc, ◌+◌, Bool, true, false, ◌&&◌, ◌||◌, eqb, List, [], ◌∷◌, ◌++◌, length, replicate, drop, Option, Some, None, refl, sym, ap, ◌∙◌, arith, eq-eqb, zero-add, nat_eq, nat_lt}
-use Rattle.std.specs.Prelude.{slice_index, unwrap_or}
-use Rattle.std.specs.List.{AllByRecursion}
-use Rattle.std.proofs.lemmas.Bool.{eqb-true, le-ltb}
+use Rattle.block_replay.proofs.Prelude.{refl, ◌≡◌, [], ℕ, ◌∙◌, arith, sym, ◌∷◌, List, Some, ap, suc, zero, ◌≤◌, true, None, length, ◌++◌, false, Option, ◌+◌, Bool, drop, ◌≢◌, eq-eqb, nat_eq, ◌&&◌, ◌||◌, eqb, nat_lt, replicate, zero-add, eqb-true, le-ltb, AllByRecursion, slice_index, unwrap_or, Maps, Placement, Placements, part, ArePlaced, IsPlaced, digits_below, lift_digits, all_mapped, after-append, Queue, SourceTree, Address, Tree, Trees, inner, leaf, none, more, IsAddressOf, LeadsToLeaf, subtree_in, LeadsBelow, SameShape, HasChild, SameShapes, is_spread}
 use mathlib.Core.Path.{fun_ext}
-use Rattle.tree_defs.specs.Queue.{Entry, Queue}
-use Rattle.tree_defs.specs.Tree.{Tree, leaf, inner, Trees, none, more, Address, LeadsToLeaf, LeadsBelow, SameShape, SameShapes, HasChild, IsAddressOf, subtree_in}
-use Rattle.tree_defs.specs.SourceTree.{SourceTree}
-use Rattle.tree_defs.proofs.TopologyLaws.{after-append}
+use Rattle.tree_defs.specs.Queue.{Entry}
 use Rattle.tree_defs.proofs.WellFormedLaws.{leads_has}
 use Rattle.embed_defs.specs.Family.{Family, below}
 use Rattle.embed_defs.specs.Spills.{spills_for, spills_at_leaf, counted, spills_along}
-use Rattle.embed_defs.specs.Placed.{Placement, Placements, part, IsPlaced, ArePlaced, lift_digits, digits_below}
 use Rattle.embed_defs.proofs.Addresses.{some_of_cond}
 use Rattle.embed_defs.specs.Lift.{digit_beyond, lift_ranks}
 use Rattle.embed_defs.specs.Lifting.{placement_of, digit_at, passing, lift, lift_child, placed_ranks, placed_ranks_below}
-use Rattle.embed_defs.specs.LiftLaws.{Maps}
 use Rattle.embed_defs.specs.Spilling.{push_spills}
 use Rattle.embed_defs.proofs.PassedEntries.{passing_by-none, passing_by-some}
 use Rattle.embed_defs.proofs.LiftPush.{lift_at_child, transit_below}
 use Rattle.embed_defs.proofs.MapPlacements.{ranks-relative}
 use Rattle.embed_defs.proofs.ImageLifts.{shape, is_placed, agrees}
-use Rattle.sched_defs.proofs.Members.{all_mapped}
-use Rattle.block_replay.specs.CalmPolicies.{is_spread}
 use Rattle.block_replay.proofs.ImageDigits.{AreOwnDigits, HasOwnDigits, HaveOwnDigits, spread-own}
 use Rattle.block_replay.proofs.TreeFloors.{Floors, IsUnder, AreUnder, AreRanksOver}
 

@@ -1,25 +1,9 @@
 -- In each state after events, no entry is above its child's floor, and so no push spills.
-use Rattle.std.proofs.Common.{◌≡◌, ◌≤◌, ℕ, max, List, [], ◌∷◌, Option, Some, None, refl, sym, ◌∙◌, subst, arith}
-use Rattle.std.specs.List.{AllByRecursion}
-use Rattle.std.proofs.lemmas.Bool.{and_parts}
-use Rattle.tree_defs.specs.Tree.{Tree, Address, Popping}
-use Rattle.tree_defs.specs.Topology.{topology_of}
-use Rattle.tree_defs.specs.SourceTree.{SourceTree, pop}
-use Rattle.tree_defs.proofs.Shapes.{topology_of-same, same_shape, topology_of-empty}
-use Rattle.rank_defs.specs.Programs.{max_rank}
-use Rattle.packet_defs.specs.declared.packet.Packet.{Packet}
-use Rattle.policy_defs.specs.Policy.{Policy, Node, node_at}
-use Rattle.policy_defs.specs.Accepted.{IsAccepted, IsClassReady}
-use Rattle.embed_defs.specs.LiftLaws.{Maps}
-use Rattle.sched_defs.specs.Visits.{Visit, after_pushes, after_pops}
-use Rattle.sched_defs.specs.SourceState.{SourceState, start, class_of, way_in, way_out, arrival_ranks, pushed, arrived, left_with, left_from, departed}
+use Rattle.block_replay.proofs.Prelude.{refl, ◌≡◌, [], ℕ, ◌∙◌, arith, sym, ◌∷◌, List, Some, subst, ◌≤◌, None, Option, max, and_parts, AllByRecursion, Maps, Packet, IsAccepted, IsClassReady, Node, node_at, Policy, max_rank, IsVisitTo, visits_from-are, Event, Arrive, CanArrive, CanMake, Depart, start, SourceState, arrival_ranks, arrived, class_of, departed, left_from, left_with, pushed, way_in, way_out, Visit, after_pushes, after_pops, same_shape, topology_of-empty, topology_of-same, SourceTree, pop, topology_of, Address, Tree, Popping, IsLaidCalmly, CalmPoliciesNeverSpill, CalmRunsNeverSpill, NoneSpills, SpillsNowhere, is_spread, has_steady_nodes}
 use Rattle.sched_defs.specs.Sound.{IsKnown, IsAtItsLeaf, IsSound}
-use Rattle.sched_defs.specs.Events.{Event, Arrive, Depart, after, CanArrive, CanMake}
-use Rattle.sched_defs.proofs.Visits.{IsVisitTo, visits_from-are}
+use Rattle.sched_defs.specs.Events.{after}
 use Rattle.sched_defs.proofs.Soundness.{class_is_ready, leads_in, by_fullness, popped_is_held, sound_start, sound_arrived, sound_departed}
 use Rattle.sched_defs.proofs.Runs.{sound_after}
-use Rattle.block_replay.specs.CalmPolicies.{has_steady_nodes, is_spread}
-use Rattle.block_replay.specs.CalmLaws.{IsLaidCalmly, SpillsNowhere, NoneSpills, CalmPoliciesNeverSpill, CalmRunsNeverSpill}
 use Rattle.block_replay.proofs.Steady.{IsSteady}
 use Rattle.block_replay.proofs.SteadyNodes.{HasSteadyPrograms, steady_programs, steady_at}
 use Rattle.block_replay.proofs.TreeFloors.{Floors, IsUnder, AreRanksUnder, AreRanksOver, IsUnder-risen, IsUnder-push, IsUnder-pop, IsUnder-empty}

@@ -1,17 +1,8 @@
 -- Children of a node, and the digits of their images.
-use Rattle.std.proofs.Common.{◌≡◌, ◌≢◌, ℕ, zero, suc, ◌+◌, ◌<◌, ◌≤◌, [], ◌∷◌, ◌++◌, length, None, Some, refl, sym, ap, ◌∙◌, subst, arith, inl, inr, length-append, append-nil}
-use Rattle.std.proofs.lemmas.Bool.{cases_order}
-use Rattle.std.specs.Prelude.{slice_index}
-use Rattle.tree_defs.specs.Tree.{Tree, leaf, inner, Trees, none, more, Address, IsAddressOf, child, root_of, subtree, subtree_in}
-use Rattle.tree_defs.specs.Topology.{topology_of, IsPrefixOf, after}
-use Rattle.tree_defs.proofs.TopologyLaws.{after-append, after-is}
-use Rattle.embed_defs.specs.Images.{image_at, image_map}
-use Rattle.embed_defs.proofs.Subtrees.{subtree-root, subtree-then, same_address}
+use Rattle.block_replay.proofs.Prelude.{refl, ◌≡◌, [], ℕ, ◌∙◌, arith, sym, ◌∷◌, Some, ap, subst, suc, zero, ◌≤◌, None, inl, inr, length, ◌++◌, ◌+◌, ◌<◌, append-nil, ◌≢◌, length-append, cases_order, slice_index, subtree-root, same_address, subtree-then, image_map, image_at, address-down, address-up, Node, after-append, after-is, topology_of, IsPrefixOf, Address, Tree, Trees, inner, leaf, none, more, root_of, IsAddressOf, subtree, subtree_in, child, HaveOwnDigits, IsMapOf, HasOwnDigit, DifferBehind}
+use Rattle.tree_defs.specs.Topology.{after}
 use Rattle.embed_defs.proofs.ImageLifts.{other_shape}
-use Rattle.policy_defs.specs.Policy.{Node}
-use Rattle.policy_core.proofs.NumberedAddresses.{address-down, address-up}
-use Rattle.block_replay.specs.CalmLaws.{DifferBehind}
-use Rattle.block_replay.specs.Calm.{IsMapOf, HasOwnDigit, HaveOwnDigits, digit_at}
+use Rattle.block_replay.specs.Calm.{digit_at}
 
 -- ---- children
 pub child_part : {Q : Type 0} (ts : Trees Q) (i : ℕ) (t : Tree Q) → child ts i ≡ Some t → subtree_in ts i [] ≡ Some t

@@ -1,16 +1,5 @@
 -- A calm policy that is laid by a good map: the premises of the laws can be met.
-use Rattle.std.proofs.Common.{◌≡◌, zero, suc, [], ◌∷◌, Some, refl, subst, arith, codes, lit≤}
-use Rattle.tree_defs.specs.Tree.{Address}
-use Rattle.rank_defs.specs.Programs.{Program}
-use Rattle.rank_defs.specs.Builtins.{builtin, named, fifo, stfq}
-use Rattle.rank_defs.proofs.Table.{builtins-checked}
-use Rattle.policy_defs.specs.Policy.{Policy, Node, node_at}
-use Rattle.policy_defs.specs.Accepted.{IsNodeReady, IsAccepted}
-use Rattle.policy_defs.specs.BuiltIn.{AreBuiltIn}
-use Rattle.embed_defs.specs.LiftLaws.{Maps}
-use Rattle.sched_defs.specs.SourceState.{start}
-use Rattle.sched_defs.proofs.Visits.{no_marks_in_range}
-use Rattle.block_replay.specs.CalmLaws.{IsLaidCalmly}
+use Rattle.block_replay.proofs.Prelude.{refl, ◌≡◌, [], arith, ◌∷◌, Some, subst, suc, zero, codes, lit≤, Maps, IsAccepted, IsNodeReady, AreBuiltIn, Node, node_at, Policy, builtins-checked, fifo, stfq, builtin, named, Program, no_marks_in_range, start, Address, IsLaidCalmly}
 use Rattle.block_replay.specs.CalmRows.{node_of, pair_by, side_by_side}
 
 abbrev fair : Policy

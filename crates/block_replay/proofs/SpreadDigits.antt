@@ -1,11 +1,5 @@
 -- Distinct digits, as a statement about the children of a node.
-use Rattle.std.proofs.Common.{◌≡◌, ◌⊎◌, ℕ, zero, suc, pred, Bool, true, false, Some, refl, sym, ap, ◌∙◌, inl, inr, eq-eqb, nat_eq}
-use Rattle.std.specs.Prelude.{not, slice_index, ◌||◌}
-use Rattle.std.specs.List.{list_any}
-use Rattle.std.proofs.lemmas.Bool.{and_parts, and_from, or_cases, not-true, eqb-true, cases_Bool}
-use Rattle.tree_defs.specs.Tree.{Tree, Trees, none, more, Address, child, root_of}
-use Rattle.block_replay.specs.CalmPolicies.{digits_behind, all_differ}
-use Rattle.block_replay.specs.CalmLaws.{DifferBehind}
+use Rattle.block_replay.proofs.Prelude.{refl, ◌≡◌, ℕ, ◌∙◌, sym, Some, ap, suc, zero, true, inl, inr, false, Bool, ◌⊎◌, eq-eqb, nat_eq, ◌||◌, pred, and_parts, and_from, or_cases, cases_Bool, eqb-true, not-true, list_any, slice_index, not, Address, Tree, Trees, none, more, root_of, child, DifferBehind, all_differ, digits_behind}
 
 pub or_later : (b c : Bool) → c ≡ true → (b || c) ≡ true
 or_later true c e = refl

@@ -1,24 +1,7 @@
 -- The floor of each child in the states of a policy's nodes: no push step lowers one, and no pop
 -- step changes one.
-use Rattle.std.proofs.Common.{◌≡◌, ◌≤◌, ℕ, Bool, true, false, List, [], ◌∷◌, ◌++◌, Option, Some, None, refl, sym, ap, ◌∙◌, subst, arith, bytes_eq}
-use Rattle.std.specs.Prelude.{slice_index, drop}
-use Rattle.std.specs.Option.{option_map_or}
-use Rattle.std.specs.List.{AllByRecursion}
-use Rattle.std.proofs.lemmas.Slice.Eq.{bytes_eq-Decides}
-use Rattle.tree_defs.specs.Tree.{Tree, Address}
-use Rattle.rank_defs.specs.declared.environment.Env.{Env}
-use Rattle.rank_defs.specs.declared.environment.Who.{Who}
-use Rattle.rank_defs.specs.declared.environment.Who.TheVariants.{Child}
-use Rattle.rank_defs.specs.Programs.{Program}
-use Rattle.rank_defs.specs.States.{State}
-use Rattle.rank_defs.specs.Steps.{push_step, push_rank, after_push, pop_step, after_pop}
-use Rattle.rank_defs.specs.Shapes.{IsStateInRange, IsEnvInRange}
+use Rattle.block_replay.proofs.Prelude.{refl, ◌≡◌, [], ℕ, ◌∙◌, arith, sym, ◌∷◌, List, Some, ap, subst, ◌≤◌, true, None, ◌++◌, false, Option, Bool, drop, bytes_eq, bytes_eq-Decides, AllByRecursion, option_map_or, slice_index, IsNodeReady, Node, node_at, Marks, no_marks, Program, IsEnvInRange, IsStateInRange, State, push_rank, after_push, pop_step, push_step, after_pop, Env, Who, Child, AreStatesInRange, after_pushes-in_range, IsVisitTo, Visit, after_pushes, States, after_pops, rank_at, with_state, Address, Tree}
 use Rattle.rank_defs.proofs.OtherStates.{put_back-same, put_back-other, by_same_who}
-use Rattle.policy_defs.specs.Policy.{Marks, no_marks, Node, node_at}
-use Rattle.policy_defs.specs.Accepted.{IsNodeReady}
-use Rattle.sched_defs.specs.Visits.{States, Visit, with_state, rank_at, after_pushes, after_pops}
-use Rattle.sched_defs.proofs.Visits.{IsVisitTo}
-use Rattle.sched_defs.proofs.States.{AreStatesInRange, after_pushes-in_range}
 use Rattle.block_replay.proofs.Steady.{floor, HasMarksOf, IsSteady}
 use Rattle.block_replay.proofs.TreeFloors.{Floors}
 

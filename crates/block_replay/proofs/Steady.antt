@@ -1,12 +1,6 @@
 -- Transactions with which the ranks of a child never fall: each has a floor for the child, which
 -- never falls either.
-use Rattle.std.proofs.Common.{◌≡◌, ◌≤◌, ℕ, List, []}
-use Rattle.rank_defs.specs.declared.environment.Env.{Env}
-use Rattle.rank_defs.specs.declared.environment.Who.{Who}
-use Rattle.rank_defs.specs.Programs.{Program}
-use Rattle.rank_defs.specs.States.{State}
-use Rattle.rank_defs.specs.Steps.{run, push_step, push_rank, pop_step}
-use Rattle.rank_defs.specs.Shapes.{IsStateInRange, IsEnvInRange}
+use Rattle.block_replay.proofs.Prelude.{◌≡◌, [], ℕ, List, ◌≤◌, Program, IsEnvInRange, IsStateInRange, State, push_rank, pop_step, push_step, run, Env, Who}
 
 -- the rank of a push of a child with these variables, if each of the node's own variables were 0
 abbrev pub floor : Program → Env → List ℕ → ℕ

@@ -1,15 +1,6 @@
 -- The built-in transactions are steady, except the one that ranks by length.
-use Rattle.std.proofs.Common.{◌≡◌, ◌≤◌, ℕ, zero, suc, List, [], ◌∷◌, refl, arith}
-use Rattle.std.specs.Prelude.{ℤ, pos, ◌+ℤ◌, ◌*ℤ◌, ◌≤ℤ◌, int_div, slice_index, slice_set}
-use Rattle.std.specs.Int.{int_max}
-use Rattle.std.proofs.lemmas.Int.{ints, clamps}
-use Rattle.rank_defs.specs.declared.environment.Env.{Env}
+use Rattle.block_replay.proofs.Prelude.{refl, ◌≡◌, [], ℕ, arith, ◌∷◌, List, suc, zero, ◌≤◌, clamps, ints, int_max, slice_index, pos, ℤ, ◌≤ℤ◌, int_div, slice_set, ◌*ℤ◌, ◌+ℤ◌, fifo, stfq, lstf, rr, strict, counter, max_rank, span, AreWithin, clamped, num, apply, quotient, Env}
 use Rattle.rank_defs.specs.declared.expression.Op.TheVariants.{Add}
-use Rattle.rank_defs.specs.Programs.{span, max_rank}
-use Rattle.rank_defs.specs.Values.{num, quotient, apply}
-use Rattle.rank_defs.specs.Steps.{clamped}
-use Rattle.rank_defs.specs.Shapes.{AreWithin}
-use Rattle.rank_defs.specs.Builtins.{counter, fifo, strict, lstf, rr, stfq}
 use Rattle.rank_defs.proofs.Spans.{clamped-within}
 use Rattle.block_replay.proofs.Clamping.{clamped-rises, clamped-stays}
 use Rattle.block_replay.proofs.Steady.{floor, HasMarksOf, IsSteady}

@@ -1,13 +1,5 @@
 -- In a tree whose nodes use steady names, the nodes have steady programs.
-use Rattle.std.proofs.Common.{◌≡◌, ℕ, zero, suc, true, List, [], ◌∷◌, Some, refl, sym, ap, ◌∙◌, subst, inl, inr, codes}
-use Rattle.std.specs.List.{AllByRecursion, list_any}
-use Rattle.std.proofs.lemmas.Bool.{or_cases, and_parts}
-use Rattle.tree_defs.specs.Tree.{Tree, leaf, inner, Trees, none, more, Address}
-use Rattle.rank_defs.specs.Programs.{Program}
-use Rattle.rank_defs.specs.Builtins.{same_name, builtin, fifo, strict, lstf, rr, stfq}
-use Rattle.rank_defs.proofs.Table.{same_name-is}
-use Rattle.policy_defs.specs.Policy.{Node, node_at, node_below}
-use Rattle.block_replay.specs.CalmPolicies.{steady, is_steady, has_steady_nodes, have_steady_nodes}
+use Rattle.block_replay.proofs.Prelude.{refl, ◌≡◌, [], ℕ, ◌∙◌, sym, ◌∷◌, List, Some, ap, subst, suc, zero, true, inl, inr, codes, and_parts, or_cases, AllByRecursion, list_any, Node, node_at, node_below, same_name-is, fifo, same_name, stfq, builtin, lstf, rr, strict, Program, Address, Tree, Trees, inner, leaf, none, more, has_steady_nodes, is_steady, steady, have_steady_nodes}
 use Rattle.block_replay.proofs.Steady.{IsSteady}
 use Rattle.block_replay.proofs.SteadyBuiltins.{fifo-steady, strict-steady, lstf-steady, rr-steady, stfq-steady}
 

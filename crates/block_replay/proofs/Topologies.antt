@@ -1,9 +1,5 @@
 -- The number of children of the node at an address of a topology.
-use Rattle.std.proofs.Common.{◌≡◌, ℕ, zero, suc, ◌+◌, ◌<◌, ◌≤◌, ◌↔◌, true, false, List, [], ◌∷◌, ◌++◌, length, get_or, map, None, Some, Vec, Global, refl, sym, ap, ◌∙◌, subst, arith, ltb}
-use Rattle.std.proofs.lemmas.Bool.{ltb-true}
-use Rattle.tree_defs.specs.Tree.{Tree, leaf, inner, Address, IsAddressOf, nodes, nodes_below, most_nodes, subtree, subtree_in, trees_of}
-use Rattle.tree_defs.specs.Topology.{Topology, topology_of}
-use Rattle.tree_core.specs.Shape.{topology, topology_step}
+use Rattle.block_replay.proofs.Prelude.{refl, ◌≡◌, [], ℕ, ◌∙◌, arith, sym, ◌∷◌, List, Some, ap, subst, suc, zero, ◌≤◌, true, None, length, ◌++◌, false, ◌+◌, ◌<◌, ◌↔◌, Global, Vec, get_or, ltb, map, ltb-true, subtree-root, address-down, address-up, Node, topology, topology_step, topology_of, Topology, Address, Tree, inner, leaf, IsAddressOf, subtree, subtree_in, nodes, most_nodes, nodes_below, trees_of}
 use Rattle.tree_core.specs.declared.topo.Topo.{Topo}
 use Rattle.tree_core.specs.declared.topo.Topo.TheFolds.{fold-roll-Topo}
 use Rattle.tree_core.specs.declared.topo.Topo.TheOpen.{Leaf}
@@ -11,9 +7,6 @@ use Rattle.tree_core.specs.declared.topo.Topo.TheVariants as variants
 use Rattle.tree_core.specs.declared.topo.Topo.TheViews as views
 use Rattle.tree_core.proofs.NewTrees.{topology_inner, child_nodes}
 use Rattle.tree_core.proofs.AddressSteps.{rest, rest-is}
-use Rattle.embed_defs.proofs.Subtrees.{subtree-root}
-use Rattle.policy_defs.specs.Policy.{Node}
-use Rattle.policy_core.proofs.NumberedAddresses.{address-down, address-up}
 use Rattle.mapcheck_core.proofs.PlaceLaws.{next_step, no_step}
 
 -- the node at an address has this many children

@@ -1,15 +1,9 @@
 -- Trees in which no entry of a child is above the child's floor.
-use Rattle.std.proofs.Common.{◌≡◌, ◌≤◌, ℕ, zero, suc, List, [], ◌∷◌, ◌++◌, Some, subst, arith}
-use Rattle.std.specs.Prelude.{option_map, slice_index, drop}
-use Rattle.std.specs.List.{AllByRecursion}
-use Rattle.tree_defs.specs.Queue.{Entry, Queue, Taking, put, take_least}
-use Rattle.tree_defs.specs.Tree.{Tree, leaf, inner, Trees, none, more, Address, LeadsToLeaf, LeadsBelow, Popping}
-use Rattle.tree_defs.specs.Topology.{Topology}
-use Rattle.tree_defs.specs.SourceTree.{empty_tree, empty_trees, push, push_child, pop, pop_child, of_leaf, of_inner, of_first, of_later}
+use Rattle.block_replay.proofs.Prelude.{◌≡◌, [], ℕ, arith, ◌∷◌, List, Some, subst, suc, zero, ◌≤◌, ◌++◌, drop, AllByRecursion, slice_index, option_map, all_mapped, Queue, Taking, put, take_least, empty_tree, pop, empty_trees, of_first, of_inner, of_later, of_leaf, pop_child, push, push_child, Topology, Address, Tree, Trees, inner, leaf, none, more, LeadsToLeaf, LeadsBelow, Popping}
+use Rattle.tree_defs.specs.Queue.{Entry}
 use Rattle.tree_defs.proofs.Options.{option_map-some, option_bind-some}
 use Rattle.tree_defs.proofs.PacketLaws.{OneMore-put, OneMore-taken}
 use Rattle.tree_defs.proofs.OneMoreLaws.{All-added, All-taken}
-use Rattle.sched_defs.proofs.Members.{all_mapped}
 
 -- a number for each child of the node at each address; at a leaf, child 0's number is that of all
 -- its packets

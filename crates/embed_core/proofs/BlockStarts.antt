@@ -1,13 +1,5 @@
 -- The start of a block, computed sibling by sibling.
-use Rattle.std.proofs.Common.{◌≡◌, ℕ, zero, suc, ◌+◌, ◌<◌, ◌≤◌, true, false, cond, List, [], ◌∷◌, length, get_or, drop, refl, sym, ap, ◌∙◌, arith}
-use Rattle.std.proofs.lemmas.List.{drop_all}
-use Rattle.tree_defs.specs.Tree.{Tree, Trees, trees_of, root_of}
-use Rattle.tree_defs.specs.Topology.{IsWithin}
-use Rattle.embed_defs.specs.Need.{FitsBelow, needs_at, leaves_below}
-use Rattle.embed_defs.specs.Canonical.{Child, comes_before, digits, start_of, children, IsAmong}
-use Rattle.embed_defs.specs.Counting.{value}
-use Rattle.embed_defs.specs.Levels.{Arities, down_from}
-use Rattle.embed_defs.proofs.Levels.{ArePositive}
+use Rattle.embed_core.proofs.Prelude.{◌≡◌, length, arith, sym, ◌∙◌, ap, List, ◌+◌, ℕ, ◌<◌, [], refl, ◌≤◌, get_or, ◌∷◌, drop, suc, zero, false, true, cond, drop_all, ArePositive, children, Child, IsAmong, start_of, comes_before, digits, value, Arities, down_from, FitsBelow, needs_at, leaves_below, IsWithin, trees_of, Tree, root_of, Trees}
 use Rattle.embed_defs.proofs.Blocks.{start-below}
 use Rattle.embed_defs.proofs.CanonicalPlaced.{all-leaves}
 use Rattle.embed_defs.proofs.LeafNumbers.{digits-value}

@@ -1,10 +1,5 @@
 -- The images of the children of a node, as a list.
-use Rattle.std.proofs.Common.{◌≡◌, ℕ, zero, suc, ◌+◌, ◌<◌, ◌≤◌, List, [], ◌∷◌, ◌++◌, length, get_or, drop, refl, sym, ap, ◌∙◌, arith, append_assoc, append-nil}
-use Rattle.std.proofs.lemmas.List.{drop_all}
-use Rattle.tree_defs.specs.Tree.{Tree, inner, more, trees_of, root_of, nodes, Address}
-use Rattle.tree_core.specs.TreeContents.{branch}
-use Rattle.embed_defs.specs.Canonical.{Child, image_part, children, canonical, canonicals}
-use Rattle.embed_defs.specs.Levels.{Arities}
+use Rattle.embed_core.proofs.Prelude.{◌≡◌, length, arith, sym, ◌∙◌, ap, List, ◌+◌, ℕ, ◌<◌, [], refl, ◌≤◌, get_or, ◌∷◌, drop, ◌++◌, suc, zero, append-nil, append_assoc, drop_all, children, canonical, Child, image_part, canonicals, Arities, branch, trees_of, Address, Tree, root_of, nodes, inner, more}
 use Rattle.embed_core.proofs.PlacedChildren.{child-count}
 
 abbrev pub images_from : Arities → ℕ → Address → List Child → List (Tree ℕ) → ℕ → List (Tree Address)

@@ -1,18 +1,6 @@
 -- The needs of a topology, computed from those of its children.
-use Rattle.std.proofs.Common.{◌≡◌, ℕ, ◌+◌, ◌<◌, ◌≤◌, List, [], ◌∷◌, ◌++◌, length, get_or, take, map, Vec, Global, refl, sym, ap, ◌∙◌, subst, arith}
-use Rattle.std.proofs.lemmas.List.{map_more}
-use Rattle.tree_defs.specs.Tree.{Tree, inner, Trees, trees_of, nodes, nodes_below, SameShape, SameShapes, root_of}
-use Rattle.tree_defs.specs.Topology.{Topology, IsBranched}
-use Rattle.tree_core.specs.Shape.{topology}
-use Rattle.tree_core.specs.TreeContents.{branch}
-use Rattle.embed_defs.specs.Need.{IsLeast, FitsBelow, needs_at, HoldNeeds, AreNeedsOf, enough}
-use Rattle.embed_defs.specs.Levels.{Arities}
-use Rattle.embed_defs.specs.Laws.{AreWide}
-use Rattle.tree_core.specs.declared.topo.Topo.{Topo}
+use Rattle.embed_core.proofs.Prelude.{◌≡◌, length, arith, sym, ◌∙◌, ap, List, ◌+◌, subst, ℕ, ◌<◌, [], refl, ◌≤◌, get_or, ◌∷◌, ◌++◌, map, take, Global, Vec, map_more, enough-nodes, AreWide, Arities, FitsBelow, needs_at, enough, IsLeast, HoldNeeds, AreNeedsOf, topology_inner, topology, branch, Topo, topology_of-same, nodes-topology, nodes_below-topology, topologies_of-same, IsBranched, Topology, trees_of, Tree, root_of, nodes, inner, Trees, nodes_below, SameShape, SameShapes}
 use Rattle.tree_core.specs.declared.topo.Topo.TheViews as views
-use Rattle.tree_defs.proofs.Shapes.{topology_of-same, topologies_of-same, nodes-topology, nodes_below-topology}
-use Rattle.tree_core.proofs.NewTrees.{topology_inner}
-use Rattle.embed_defs.proofs.EnoughHeights.{enough-nodes}
 
 -- the needs of each of some topologies
 abbrev pub AreNeedsOfEach : Arities → List Topology → List (Tree ℕ) → Type 0

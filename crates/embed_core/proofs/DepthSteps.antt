@@ -1,13 +1,5 @@
 -- The depths of the images of the nodes on a path to a leaf.
-use Rattle.std.proofs.Common.{◌≡◌, ℕ, zero, suc, ◌+◌, ◌<◌, ◌≤◌, List, [], ◌∷◌, length, get_or, map, drop, refl, sym, ap, ◌∙◌, subst, arith}
-use Rattle.std.proofs.lemmas.List.{drop_more}
-use Rattle.std.specs.Prelude.{slice_index}
-use Rattle.std.specs.List.{AllByRecursion}
-use Rattle.tree_defs.specs.Tree.{Tree, leaf, inner, Trees, none, more, trees_of, root_of, Address, LeadsToLeaf, LeadsBelow, depth, depth_below}
-use Rattle.tree_core.specs.TreeContents.{branch}
-use Rattle.embed_defs.specs.Lift.{picked_ranks, picked_ranks_below}
-use Rattle.embed_defs.specs.GoodMaps.{IsDeep, AreDeep}
-use Rattle.embed_core.specs.Lanes.{image_depths, image_depths_below}
+use Rattle.embed_core.proofs.Prelude.{◌≡◌, length, arith, sym, ◌∙◌, ap, List, ◌+◌, subst, ℕ, ◌<◌, [], refl, ◌≤◌, get_or, ◌∷◌, drop, map, suc, zero, drop_more, AllByRecursion, slice_index, IsDeep, AreDeep, picked_ranks, picked_ranks_below, branch, trees_of, Address, Tree, root_of, inner, leaf, Trees, more, LeadsToLeaf, none, LeadsBelow, depth, depth_below, image_depths, image_depths_below}
 use Rattle.embed_core.proofs.LiftSteps.{leads-index, leads-child}
 
 -- ---- one step down

@@ -1,19 +1,14 @@
 -- Children in the order of their images, and a search among them.
-use Rattle.std.proofs.Common.{◌≡◌, ℕ, zero, suc, ◌+◌, ◌<◌, ◌≤◌, true, false, eqb, ltb, List, [], ◌∷◌, ◌++◌, length, get_or, take, drop, map, refl, sym, ap, ◌∙◌, subst, arith, inl, inr, eq-eqb, Ordering, Less, Equal, Greater, Bor}
+use Rattle.embed_core.proofs.Prelude.{◌≡◌, length, arith, sym, ◌∙◌, ap, List, ◌+◌, subst, ℕ, ◌<◌, [], refl, ◌≤◌, get_or, ◌∷◌, drop, ◌++◌, map, suc, zero, take, eqb, false, true, eq-eqb, inl, inr, Bor, Equal, Greater, Less, Ordering, ltb, drop_all, drop_more, get_or_default, get_or-map, length-map, map-append, All, Contains, IsPrefixOf, after, Address, Tree, root_of, leaf, AreApart, IsOnSide, is_behind, IsImageOrder, child_image}
 use Rattle.std.proofs.lemmas.Bool.{true≢false, cases_order, cases_lt, le-ltb, lt-ltb, ne_eqb, eqb-true}
-use Rattle.std.proofs.lemmas.List.{get_or_default, get_or-map, map-append, length-map, drop_all, drop_more}
 use Rattle.std.proofs.lemmas.Cmp.{nat_list_cmp_total, nat_cmp_total, upto, then_total, on_total}
 use Rattle.std.proofs.lemmas.List.Elements.{All-push, Contains-append_left, Contains-push}
 use Rattle.std.proofs.lemmas.List.Sorted.{sorted_far, ranks_by, All-permutation, Contains-permutation, IsPermutation-map}
-use Rattle.std.specs.List.{All, Contains}
 use Rattle.std.specs.List.Sorted.{IsPermutation, IsSortedBy}
 use Rattle.std.specs.Cmp.Lexicographic.{slice_cmp}
 use Rattle.std.specs.Ordering.{nat_cmp, is_gt, is_lt, ordering_then, ordering_reverse}
 use Rattle.std.specs.Cmp.{IsStrictWeakOrder}
-use Rattle.tree_defs.specs.Tree.{Tree, leaf, root_of, Address}
-use Rattle.tree_defs.specs.Topology.{after, IsPrefixOf}
 use Rattle.embed_defs.proofs.Addresses.{some_of_cond}
-use Rattle.embed_core.specs.ImageOrder.{is_behind, child_image, IsImageOrder, AreApart, IsOnSide}
 
 behind-head : (a b : ℕ) (c x : Address) → a < b → is_behind (b ∷ c) (a ∷ x) ≡ true
 behind-head a b c x l = let n : eqb b a ≡ false = ne_eqb b a (λ e. omega arith) in let m : ltb b a ≡ false = le-ltb b a (omega arith) in rw (m, n) refl

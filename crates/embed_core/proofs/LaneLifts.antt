@@ -1,13 +1,6 @@
 -- Lifting the step numbers as if they were ranks shows whose rank is at each depth.
-use Rattle.std.proofs.Common.{◌≡◌, ℕ, zero, suc, ◌+◌, ◌-◌, ◌<◌, List, [], ◌∷◌, ◌++◌, length, get_or, map, replicate, refl, sym, ap, ◌∙◌, subst, arith}
-use Rattle.std.proofs.lemmas.List.{map-append}
-use Rattle.std.proofs.lemmas.List.FromFn.{get_or-range_with_len, length-range_with_len}
-use Rattle.std.specs.Prelude.{slice_index}
-use Rattle.std.specs.List.{AllByRecursion, range_with_len}
-use Rattle.tree_defs.specs.Tree.{Tree, leaf, inner, Trees, none, more, Address, root_of}
-use Rattle.embed_defs.specs.Lift.{lift_ranks, lift_ranks_below}
+use Rattle.embed_core.proofs.Prelude.{◌≡◌, length, arith, sym, ◌∙◌, ap, List, ◌+◌, subst, ℕ, ◌<◌, [], refl, get_or, ◌∷◌, ◌++◌, map, suc, zero, ◌-◌, replicate, map-append, length-range_with_len, get_or-range_with_len, AllByRecursion, range_with_len, slice_index, lift_ranks, lift_ranks_below, Address, Tree, root_of, inner, leaf, Trees, more, none, IsLaneTo}
 use Rattle.embed_core.specs.declared.lifted_path.LiftedPath.{LiftedPath}
-use Rattle.embed_core.specs.Lanes.{IsLaneTo}
 
 map-replicate : (f : ℕ → ℕ) (n x : ℕ) → map f (replicate n x) ≡ replicate n (f x)
 map-replicate f zero x = refl

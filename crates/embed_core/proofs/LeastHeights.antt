@@ -1,11 +1,5 @@
 -- The search for the least height, level by level.
-use Rattle.std.proofs.Common.{◌≡◌, ℕ, zero, suc, ◌+◌, ◌/◌, ◌%◌, ◌<◌, ◌≤◌, min, eqb, List, [], ◌∷◌, length, get_or, refl, arith}
-use Rattle.std.specs.List.{count_by}
-use Rattle.embed_defs.specs.Need.{IsLeast, FitsBelow, AreLower, enough}
-use Rattle.embed_defs.specs.Levels.{Arities}
-use Rattle.embed_defs.specs.Laws.{AreWide}
-use Rattle.embed_defs.proofs.EnoughHeights.{wide-positive}
-use Rattle.embed_defs.proofs.CarriedCounts.{times, carried, times-count, carried-fits, carried-bound}
+use Rattle.embed_core.proofs.Prelude.{◌≡◌, length, arith, List, ◌+◌, ℕ, ◌<◌, [], refl, ◌≤◌, get_or, ◌∷◌, suc, zero, eqb, min, ◌%◌, ◌/◌, count_by, carried, carried-bound, carried-fits, times, times-count, wide-positive, AreWide, Arities, FitsBelow, enough, IsLeast, AreLower}
 
 lower-each : (h : ℕ) (ns : List ℕ) → ((k : ℕ) → k < length ns → get_or ns k 0 < h) → AreLower h ns
 lower-each h [] f = tt

@@ -1,3 +1,4 @@
+pub mod Prelude
 pub mod TargetArities
 pub mod LeastHeights
 pub mod ChildNeeds

@@ -1,13 +1,7 @@
 -- One step down a map along a path.
-use Rattle.std.proofs.Common.{◌≡◌, ℕ, zero, suc, ◌+◌, ◌-◌, ◌<◌, ◌≤◌, List, [], ◌∷◌, ◌++◌, length, get_or, take, drop, replicate, set, refl, sym, ap, ◌∙◌, subst, arith, append-nil, length-drop}
-use Rattle.std.specs.Prelude.{option_map, unwrap_or}
-use Rattle.std.proofs.lemmas.List.{take_at, drop_all, drop_more, get_or-drop, length-replicate}
+use Rattle.embed_core.proofs.Prelude.{◌≡◌, length, arith, sym, ◌∙◌, ap, List, ◌+◌, subst, ℕ, ◌<◌, [], refl, ◌≤◌, get_or, ◌∷◌, drop, ◌++◌, suc, zero, take, ◌-◌, append-nil, length-drop, replicate, drop_all, drop_more, length-replicate, take_at, get_or-drop, option_map, unwrap_or, IsDeep, AreDeep, image_map, lift_ranks, lift_ranks_below, branch, trees_of, Address, Tree, root_of, inner, leaf, Trees, more, LeadsToLeaf, none, LeadsBelow}
+use Rattle.std.proofs.Common.{set}
 use borrow.Rule.Slice.PartMut.{put_mid}
-use Rattle.tree_defs.specs.Tree.{Tree, leaf, inner, Trees, none, more, trees_of, root_of, Address, LeadsToLeaf, LeadsBelow}
-use Rattle.tree_core.specs.TreeContents.{branch}
-use Rattle.embed_defs.specs.Images.{image_map}
-use Rattle.embed_defs.specs.Lift.{lift_ranks, lift_ranks_below}
-use Rattle.embed_defs.specs.GoodMaps.{IsDeep, AreDeep}
 use Rattle.embed_core.proofs.MapSteps.{child-at}
 
 root-branch : (e : Address) (ts : Trees Address) → root_of (branch e ts) ≡ e

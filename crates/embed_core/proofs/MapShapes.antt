@@ -1,8 +1,5 @@
 -- A map's leaf addresses and depth are those of its topology.
-use Rattle.std.proofs.Common.{◌≡◌, sym, ap, ◌∙◌, subst}
-use Rattle.tree_defs.specs.Tree.{Tree, Address, LeadsToLeaf, SameShape, depth}
-use Rattle.tree_defs.specs.Topology.{Topology}
-use Rattle.tree_defs.proofs.Shapes.{topology_of-same, LeadsToLeaf-topology, depth-topology}
+use Rattle.embed_core.proofs.Prelude.{◌≡◌, sym, ◌∙◌, ap, subst, topology_of-same, LeadsToLeaf-topology, depth-topology, Topology, Address, Tree, LeadsToLeaf, depth, SameShape}
 
 pub leads-alike : {Q R : Type 0} (t : Tree Q) (u : Tree R) (a : Address) → SameShape t u → LeadsToLeaf t a → LeadsToLeaf u a
 leads-alike t u a s l =

@@ -1,11 +1,5 @@
 -- One step down a map, and whether there is room.
-use Rattle.std.proofs.Common.{◌≡◌, ℕ, zero, suc, ◌-◌, ◌<◌, ◌≤◌, ◌↔◌, true, false, eqb, List, [], ◌∷◌, length, get_or, take, drop, None, refl, sym, ap, ◌∙◌, subst, arith, eq-eqb}
-use Rattle.std.specs.Prelude.{option_map}
-use Rattle.std.proofs.lemmas.List.{take_all}
-use Rattle.tree_defs.specs.Tree.{Tree, trees_of, root_of, Address, subtree, subtree_in}
-use Rattle.tree_core.specs.TreeContents.{branch}
-use Rattle.embed_defs.specs.Need.{HasHeight}
-use Rattle.embed_defs.specs.Images.{image_at}
+use Rattle.embed_core.proofs.Prelude.{◌≡◌, length, arith, sym, ◌∙◌, ap, List, subst, ℕ, ◌<◌, [], refl, ◌≤◌, get_or, ◌∷◌, drop, suc, zero, take, ◌-◌, None, eqb, false, true, eq-eqb, ◌↔◌, take_all, option_map, image_at, HasHeight, branch, trees_of, Address, Tree, root_of, subtree_in, subtree}
 
 pub child-at : (ks : List (Tree Address)) (i : ℕ) (k : Tree Address) (b : Address) → i < length ks → k ≡ get_or ks i k → subtree_in (trees_of ks) i b ≡ subtree k b
 child-at [] i k b l e = absurd (omega arith)

@@ -1,11 +1,6 @@
 -- Changes to one digit of a leaf's number.
-use Rattle.std.proofs.Common.{◌≡◌, ℕ, suc, ◌+◌, ◌*◌, ◌<◌, ◌≤◌, List, length, get_or, refl, sym, ap, subst, arith}
+use Rattle.embed_core.proofs.Prelude.{◌≡◌, length, arith, sym, ap, List, ◌+◌, subst, ℕ, ◌<◌, refl, ◌≤◌, get_or, suc, ◌*◌, length-set, value, Arities, down_from, leaves_below, IsWithin}
 use Rattle.std.proofs.Math.ListN.{set}
-use Rattle.std.proofs.lemmas.List.{length-set}
-use Rattle.tree_defs.specs.Topology.{IsWithin}
-use Rattle.embed_defs.specs.Need.{leaves_below}
-use Rattle.embed_defs.specs.Counting.{value}
-use Rattle.embed_defs.specs.Levels.{Arities, down_from}
 use Rattle.embed_defs.proofs.LeafNumbers.{value-set, within-set, digit-below}
 
 module _ (a : Arities) (ds : List ℕ) (i k : ℕ) (e : i + k + 1 ≡ length ds) (w : IsWithin (down_from a (length ds)) ds) where

@@ -1,18 +1,9 @@
 -- The child below which a leaf is, found by its image.
-use Rattle.std.proofs.Common.{◌≡◌, ℕ, zero, suc, ◌+◌, ◌<◌, ◌≤◌, List, [], ◌∷◌, ◌++◌, length, get_or, take, Option, None, refl, sym, ap, ◌∙◌, subst, arith, append_assoc, append-nil, length-append}
-use Rattle.std.proofs.lemmas.List.{get_or_default, take_at}
-use Rattle.std.specs.Prelude.{option_map, unwrap_or}
-use Rattle.tree_defs.specs.Tree.{Tree, leaf, inner, Trees, none, more, trees_of, root_of, Address, LeadsToLeaf, LeadsBelow, nodes, nodes_below, depth, depth_below, subtree_in}
-use Rattle.tree_defs.specs.Topology.{after, IsPrefixOf}
+use Rattle.embed_core.proofs.Prelude.{◌≡◌, length, arith, sym, ◌∙◌, ap, List, ◌+◌, subst, ℕ, ◌<◌, [], refl, ◌≤◌, get_or, ◌∷◌, ◌++◌, suc, zero, take, append-nil, append_assoc, None, Option, length-append, get_or_default, take_at, option_map, unwrap_or, IsDeep, AreNested, IsNested, image_map, picked_ranks, picked_ranks_below, branch, IsPrefixOf, after, trees_of, Address, Tree, root_of, nodes, inner, leaf, Trees, more, LeadsToLeaf, nodes_below, none, LeadsBelow, depth, depth_below, subtree_in, AreApart, IsOnSide, child_image, EachChild, GoesBeside}
 use Rattle.tree_defs.proofs.TopologyLaws.{after-append, after-is}
 use Rattle.tree_core.specs.Paths.{Way}
-use Rattle.tree_core.specs.TreeContents.{branch}
-use Rattle.embed_defs.specs.Images.{image_map}
 use Rattle.embed_defs.specs.Placed.{IsApartFrom}
 use Rattle.embed_defs.proofs.Addresses.{one_prefix}
-use Rattle.embed_defs.specs.Lift.{picked_ranks, picked_ranks_below}
-use Rattle.embed_defs.specs.GoodMaps.{IsDeep, IsNested, AreNested}
-use Rattle.embed_core.specs.ImageOrder.{child_image, AreApart, IsOnSide, EachChild, GoesBeside}
 use Rattle.embed_core.specs.Picks.{LeadsToImage, IsLeafImage, PicksOnto}
 use Rattle.embed_core.proofs.MapSteps.{child-at}
 use Rattle.embed_core.proofs.LiftSteps.{IsDeeper, leads-index, leads-child, deep-child}

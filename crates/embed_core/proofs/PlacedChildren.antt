@@ -1,12 +1,5 @@
 -- Facts about the children of a node that has room for them.
-use Rattle.std.proofs.Common.{◌≡◌, ℕ, zero, suc, ◌+◌, ◌<◌, ◌≤◌, List, [], ◌∷◌, length, get_or, sym, ap, ◌∙◌, subst, arith, inl, inr}
-use Rattle.tree_defs.specs.Tree.{Tree, leaf, inner, trees_of, nodes, nodes_below, root_of}
-use Rattle.tree_core.specs.TreeContents.{branch}
-use Rattle.embed_defs.specs.Need.{FitsBelow, needs_at, AreLower, HoldsNeeds, HoldNeeds, HasHeight}
-use Rattle.embed_defs.specs.Canonical.{children, IsAmong}
-use Rattle.embed_defs.specs.Levels.{Arities}
-use Rattle.embed_defs.proofs.Levels.{ArePositive, leaves-le}
-use Rattle.embed_defs.proofs.EnoughHeights.{lower-more}
+use Rattle.embed_core.proofs.Prelude.{◌≡◌, length, arith, sym, ◌∙◌, ap, List, ◌+◌, subst, ℕ, ◌<◌, [], ◌≤◌, get_or, ◌∷◌, suc, zero, inl, inr, lower-more, ArePositive, leaves-le, children, IsAmong, Arities, FitsBelow, needs_at, HasHeight, AreLower, HoldNeeds, HoldsNeeds, branch, trees_of, Tree, root_of, nodes, inner, leaf, nodes_below}
 
 module _ (a : Arities) (m : Tree ℕ) (n h : ℕ) (p : ArePositive a) (d : HoldsNeeds a m) (r : HasHeight h m) where
   pub children-fit : (ks : List (Tree ℕ)) → branch n (trees_of ks) ≡ m → 0 < length ks → FitsBelow a (needs_at (trees_of ks)) h

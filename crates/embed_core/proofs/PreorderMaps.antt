@@ -1,17 +1,9 @@
 -- The children of a node, each made from the images that the children before it left.
-use Rattle.std.proofs.Common.{◌≡◌, ℕ, zero, suc, ◌+◌, ◌<◌, ◌≤◌, List, [], ◌∷◌, ◌++◌, length, get_or, drop, map, Vec, Global, refl, sym, ap, ◌∙◌, subst, arith, append_assoc, append-nil}
-use Rattle.std.proofs.lemmas.List.{drop_all, drop_more, get_or_default, get_or-map, length-drop, length-map}
-use Rattle.tree_defs.specs.Tree.{Tree, leaf, inner, more, trees_of, nodes, nodes_below, Address}
-use Rattle.tree_defs.specs.Topology.{Topology, IsBranched}
-use Rattle.tree_core.specs.Shape.{topology, topology_step}
-use Rattle.tree_core.specs.TreeContents.{branch}
+use Rattle.embed_core.proofs.Prelude.{◌≡◌, length, arith, sym, ◌∙◌, ap, List, ◌+◌, subst, ℕ, ◌<◌, [], refl, ◌≤◌, get_or, ◌∷◌, drop, ◌++◌, map, suc, zero, append-nil, append_assoc, length-drop, Global, Vec, drop_all, drop_more, get_or_default, get_or-map, length-map, HoldsImages, image_in, tree_in, trees_in, topology_inner, topology, topology_step, branch, Topo, IsBranched, Topology, trees_of, Address, Tree, nodes, inner, leaf, more, nodes_below}
 use Rattle.tree_core.specs.declared.topo.Topo as whole
-use Rattle.tree_core.specs.declared.topo.Topo.{Topo}
 use Rattle.tree_core.specs.declared.topo.Topo.TheOpen.{Leaf}
 use Rattle.tree_core.specs.declared.topo.Topo.TheFolds.{fold-roll-Topo}
 use Rattle.tree_core.specs.declared.topo.Topo.TheViews as views
-use Rattle.tree_core.proofs.NewTrees.{topology_inner}
-use Rattle.embed_defs.specs.Preorder.{image_in, tree_in, trees_in, HoldsImages}
 use Rattle.embed_defs.proofs.PreorderTrees.{trees_in_preorder_hold_the_images}
 
 -- the trees of a list of topologies, each made from the images left by the trees before it

@@ -1,17 +1,9 @@
 -- Facts about the arities of a target in range, by height.
-use Rattle.std.proofs.Common.{◌≡◌, ℕ, ◌-◌, ◌≤◌, List, length, refl, sym, ◌∙◌, subst, arith}
-use Rattle.tree_defs.specs.Topology.{Topology, complete}
+use Rattle.embed_core.proofs.Prelude.{◌≡◌, length, arith, sym, ◌∙◌, List, subst, ℕ, refl, ◌≤◌, ◌-◌, wide-positive, ArePositive, HasEmbedding, AreWide, down_from, IsLeast, Topology, complete, levels_of}
 use Rattle.embed_defs.specs.Target.{lowest}
-use Rattle.embed_defs.specs.Levels.{down_from}
 use Rattle.embed_defs.proofs.LevelLaws.{heights_give-holds, heights_in_range-holds}
 use Rattle.target_core.specs.declared.target.Target.{Target}
-use Rattle.embed_defs.specs.Embedding.{HasEmbedding}
-use Rattle.embed_defs.specs.Need.{IsLeast}
-use Rattle.embed_defs.specs.Laws.{AreWide}
-use Rattle.embed_defs.proofs.Levels.{ArePositive}
-use Rattle.embed_defs.proofs.EnoughHeights.{wide-positive}
 use Rattle.embed_defs.specs.Target.{IsInRange}
-use Rattle.embed_core.specs.Range.{levels_of}
 
 pub wide : (t : Target) → IsInRange t.arities t.above → AreWide (levels_of t)
 wide t r h = (heights_in_range-holds t.arities t.above r h).0

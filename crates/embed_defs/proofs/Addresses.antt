@@ -1,8 +1,6 @@
 -- Prefixes of addresses.
-use Rattle.std.proofs.Common.{◌≡◌, Bool, true, false, cond, eqb, [], ◌∷◌, ◌++◌, Option, Some, None, refl, sym, ◌∙◌, eq-eqb}
-use Rattle.std.proofs.lemmas.Bool.{eqb-true}
+use Rattle.embed_defs.proofs.Prelude.{[], ◌≡◌, refl, ◌∷◌, ◌∙◌, sym, Some, ◌++◌, None, Option, eqb, eq-eqb, true, cond, Bool, false, eqb-true, after}
 use Rattle.tree_defs.specs.Tree.{Address}
-use Rattle.tree_defs.specs.Topology.{after}
 
 pub some_of_cond : {A : Type 0} (t : Bool) (o : Option A) (v : A) → cond t o None ≡ Some v → (t ≡ true) × (o ≡ Some v)
 some_of_cond true o v p = (refl, p)

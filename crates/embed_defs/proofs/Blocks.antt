@@ -1,14 +1,7 @@
 -- The blocks of the children of a node are side by side, so none of their images is a prefix of
 -- another.
-use Rattle.std.proofs.Common.{◌≡◌, ℕ, ◌+◌, ◌-◌, ◌<◌, ◌≤◌, cond, List, [], ◌∷◌, ◌++◌, length, Some, None, refl, sym, ap, ◌∙◌, arith, inl, inr, append-nil, length-append}
-use Rattle.std.proofs.lemmas.Bool.{cases_Bool}
-use Rattle.std.proofs.lemmas.List.{nil_from_length, length-take-le}
+use Rattle.embed_defs.proofs.Prelude.{[], ℕ, ◌≡◌, refl, ◌∷◌, ap, ◌∙◌, arith, sym, length, List, ◌≤◌, Some, ◌++◌, ◌+◌, ◌-◌, None, ◌<◌, inl, inr, append-nil, length-append, cond, cases_Bool, length-take-le, nil_from_length, after-append, after-is, after, Child, digits, image_part, IsAmong, comes_before, start_of, Arities, leaves_below}
 use Rattle.tree_defs.specs.Tree.{Address}
-use Rattle.tree_defs.specs.Topology.{after}
-use Rattle.tree_defs.proofs.TopologyLaws.{after-append, after-is}
-use Rattle.embed_defs.specs.Levels.{Arities}
-use Rattle.embed_defs.specs.Need.{leaves_below}
-use Rattle.embed_defs.specs.Canonical.{digits, Child, IsAmong, comes_before, start_of, image_part}
 use Rattle.embed_defs.proofs.Levels.{ArePositive, leaves-positive}
 use Rattle.embed_defs.proofs.Addresses.{none_unless}
 use Rattle.embed_defs.proofs.ChildOrder.{Comes, comes, before, Comes-trans, Comes-le, Comes-irrefl}

@@ -1,19 +1,11 @@
 -- The canonical images are a good map.
-use Rattle.std.proofs.Common.{◌≡◌, ℕ, suc, ◌+◌, ◌-◌, List, [], ◌++◌, length, None, refl, ap, ◌∙◌, arith, length-append}
-use Rattle.tree_defs.specs.Tree.{Tree, leaf, inner, Trees, none, more, Address, SameShape, SameShapes, root_of}
-use Rattle.tree_defs.specs.Topology.{after}
-use Rattle.tree_defs.proofs.TopologyLaws.{after-append}
-use Rattle.tree_defs.proofs.Shapes.{same_shape, topology_of-same}
-use Rattle.embed_defs.specs.Levels.{Arities}
-use Rattle.embed_defs.specs.Canonical.{Child, image_part, children, canonical, canonicals}
-use Rattle.embed_defs.specs.Placed.{IsPlaced, ArePlaced, IsApartFrom}
+use Rattle.embed_defs.proofs.Prelude.{[], ℕ, ◌≡◌, refl, ap, ◌∙◌, arith, suc, length, List, ◌++◌, ◌+◌, ◌-◌, None, length-append, same_shape, topology_of-same, after-append, after, inner, leaf, more, none, Tree, Trees, root_of, SameShape, SameShapes, Child, canonical, image_part, children, canonicals, AreDeep, IsDeep, AreNested, IsNested, Arities, CanonicalMapsAreGood, IsPlaced, ArePlaced, IsApartFrom}
+use Rattle.tree_defs.specs.Tree.{Address}
 use Rattle.embed_defs.proofs.Addresses.{after-sum}
 use Rattle.embed_defs.proofs.Levels.{ArePositive}
 use Rattle.embed_defs.proofs.EnoughHeights.{wide-positive}
 use Rattle.embed_defs.proofs.Blocks.{length-part}
 use Rattle.embed_defs.proofs.CanonicalPlaced.{parts, child_parts, IsRoomy, AreRoomy, needs-roomy, parts-good, root-parts}
-use Rattle.embed_defs.specs.GoodMaps.{IsDeep, AreDeep, IsNested, AreNested}
-use Rattle.embed_defs.specs.LiftLaws.{CanonicalMapsAreGood}
 
 root-canonical : (a : Arities) (h : ℕ) (e : Address) (t : Tree ℕ) → root_of (canonical a h e t) ≡ e
 root-canonical a h e (leaf n) = refl

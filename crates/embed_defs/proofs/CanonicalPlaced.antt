@@ -1,13 +1,6 @@
 -- The canonical placement is a placement.
-use Rattle.std.proofs.Common.{◌≡◌, ◌≢◌, ℕ, suc, ◌+◌, ◌-◌, ◌<◌, ◌≤◌, List, [], length, None, refl, sym, ap, ◌∙◌, subst, arith, inl, inr}
-use Rattle.std.specs.Prelude.{sum_by}
-use Rattle.std.proofs.lemmas.List.Sums.{sum_by-cons}
-use Rattle.tree_defs.specs.Tree.{Tree, leaf, inner, Trees, none, more, Address, SameShape, SameShapes, root_of}
-use Rattle.tree_defs.specs.Topology.{after, IsWithin}
-use Rattle.embed_defs.specs.Levels.{Arities, down_from}
-use Rattle.embed_defs.specs.Need.{leaves_below, needs_at, AreLower, HoldsNeeds, HoldNeeds, HasHeight}
-use Rattle.embed_defs.specs.Canonical.{Child, IsAmong, digits, start_of, image_part, children}
-use Rattle.embed_defs.specs.Placed.{Placement, Placements, IsApartFrom, IsPlaced, ArePlaced}
+use Rattle.embed_defs.proofs.Prelude.{[], ℕ, ◌≡◌, refl, ap, ◌∙◌, arith, suc, sym, length, List, ◌≤◌, ◌+◌, ◌-◌, None, ◌<◌, subst, inl, inr, ◌≢◌, sum_by-cons, sum_by, after, IsWithin, inner, leaf, more, none, Tree, Trees, root_of, SameShape, SameShapes, Child, digits, image_part, children, IsAmong, start_of, Arities, down_from, leaves_below, AreLower, HasHeight, HoldNeeds, HoldsNeeds, needs_at, Placement, IsPlaced, Placements, ArePlaced, IsApartFrom}
+use Rattle.tree_defs.specs.Tree.{Address}
 use Rattle.embed_defs.proofs.Levels.{ArePositive, leaves-le}
 use Rattle.embed_defs.proofs.EnoughHeights.{lower-more}
 use Rattle.embed_defs.proofs.ChildOrder.{Comes-either}

@@ -1,14 +1,7 @@
 -- Counts carried level by level decide whether subtrees fit side by side.
-use Rattle.std.proofs.Common.{◌≡◌, ℕ, zero, suc, ◌+◌, ◌-◌, ◌*◌, ◌/◌, ◌%◌, min, ◌<◌, ◌≤◌, ◌↔◌, cond, eqb, ltb, List, [], ◌∷◌, length, refl, ap, ◌∙◌, arith, inl, inr, eq-eqb}
-use Rattle.std.specs.Prelude.{sum_by}
-use Rattle.std.proofs.Math.Nat.{mul-le-mul_left, le_of_mul-le-mul_right}
-use Rattle.std.proofs.lemmas.Bool.{cases_order, cases_Bool, cases_lt, ne_eqb, lt-ltb, le-ltb}
-use Rattle.std.proofs.lemmas.List.Sums.{sum_by-cons}
+use Rattle.embed_defs.proofs.Prelude.{[], ℕ, ◌≡◌, refl, ◌∷◌, ap, ◌∙◌, arith, suc, length, List, ◌≤◌, zero, ◌+◌, ◌-◌, ◌<◌, inl, inr, eqb, eq-eqb, ◌*◌, cond, ◌%◌, ◌/◌, ◌↔◌, ltb, min, mul-le-mul_left, le_of_mul-le-mul_right, cases_Bool, cases_lt, cases_order, le-ltb, lt-ltb, ne_eqb, sum_by-cons, count_by, sum_by, Arities, leaves_below, AreLower, FitsBelow}
 use Rattle.std.proofs.lemmas.Grind.{div_ceil_times}
 use Rattle.std.proofs.lemmas.List.Recursion.{is_count_by}
-use Rattle.std.specs.List.{count_by}
-use Rattle.embed_defs.specs.Levels.{Arities}
-use Rattle.embed_defs.specs.Need.{leaves_below, AreLower, FitsBelow}
 use Rattle.embed_defs.proofs.Levels.{ArePositive, leaves-positive}
 
 -- a count divided by an arity, rounded up

@@ -1,7 +1,5 @@
 -- The order in which children are placed.
-use Rattle.std.proofs.Common.{◌≡◌, ◌≢◌, ◌<◌, ◌≤◌, ◌⊎◌, true, ◌&&◌, eqb, ltb, refl, sym, arith, inl, inr, eq-eqb}
-use Rattle.std.proofs.lemmas.Bool.{cases_order, eqb-true, ltb-true, lt-ltb, le-ltb, and_parts, or_cases}
-use Rattle.embed_defs.specs.Canonical.{Child, comes_before}
+use Rattle.embed_defs.proofs.Prelude.{◌≡◌, refl, arith, sym, ◌≤◌, ◌<◌, inl, inr, ◌≢◌, eqb, eq-eqb, true, ◌⊎◌, ltb, ◌&&◌, eqb-true, cases_order, le-ltb, lt-ltb, ltb-true, and_parts, or_cases, Child, comes_before}
 
 abbrev pub Comes : Child → Child → Type 0
 Comes x y = (y.1 < x.1) ⊎ ((x.1 ≡ y.1) × (x.0 < y.0))

@@ -1,10 +1,6 @@
 -- Composed maps, and maps that agree on the addresses.
-use Rattle.std.proofs.Common.{◌≡◌, [], sym, ap, ◌∙◌, subst}
-use Rattle.tree_defs.specs.Tree.{Address, IsAddressOf, LeadsToLeaf}
-use Rattle.tree_defs.specs.Topology.{Topology}
-use Rattle.tree_defs.proofs.TopologyLaws.{leaf_at}
-use Rattle.embed_defs.specs.Embedding.{IsEmbedding}
-use Rattle.embed_defs.specs.Images.{image_map}
+use Rattle.embed_defs.proofs.Prelude.{[], ◌≡◌, ap, ◌∙◌, sym, subst, leaf_at, Topology, IsAddressOf, LeadsToLeaf, IsEmbedding, image_map}
+use Rattle.tree_defs.specs.Tree.{Address}
 use Rattle.embed_defs.proofs.Subtrees.{subtree-root}
 use Rattle.embed_defs.specs.MapLaws.{EmbeddingsCompose, TreesOfImagesEmbed}
 

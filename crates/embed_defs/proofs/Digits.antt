@@ -1,13 +1,7 @@
 -- Leaves and their digits.
-use Rattle.std.proofs.Common.{◌≡◌, ℕ, zero, suc, ◌+◌, ◌-◌, ◌*◌, ◌/◌, ◌%◌, ◌<◌, ◌≤◌, true, eqb, [], ◌∷◌, length, take, Some, refl, ap, arith}
-use Rattle.std.proofs.Math.Nat.{div-lt_iff_lt-mul}
+use Rattle.embed_defs.proofs.Prelude.{[], ℕ, ◌≡◌, refl, ◌∷◌, ap, arith, suc, length, ◌≤◌, Some, zero, ◌+◌, ◌-◌, ◌<◌, eqb, ◌*◌, true, ◌%◌, ◌/◌, take, div-lt_iff_lt-mul, eqb-true, after, IsWithin, digits, Arities, down_from, leaves_below}
 use Rattle.std.proofs.lemmas.Nat.{mod_below}
-use Rattle.std.proofs.lemmas.Bool.{eqb-true}
 use Rattle.tree_defs.specs.Tree.{Address}
-use Rattle.tree_defs.specs.Topology.{after, IsWithin}
-use Rattle.embed_defs.specs.Levels.{Arities, down_from}
-use Rattle.embed_defs.specs.Need.{leaves_below}
-use Rattle.embed_defs.specs.Canonical.{digits}
 use Rattle.embed_defs.proofs.Levels.{ArePositive, leaves-positive}
 use Rattle.embed_defs.proofs.Addresses.{some_of_cond}
 

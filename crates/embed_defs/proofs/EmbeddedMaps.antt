@@ -1,16 +1,8 @@
 -- The images of an embedding are a good map.
-use Rattle.std.proofs.Common.{◌≡◌, ℕ, suc, ◌+◌, ◌<◌, ◌≤◌, List, [], ◌∷◌, ◌++◌, length, Some, None, refl, sym, ap, ◌∙◌, subst, arith, length-append, append-nil}
-use Rattle.tree_defs.specs.Tree.{Tree, leaf, inner, Trees, none, more, Address, SameShape, subtree, subtree_in, IsAddressOf, LeadsToLeaf, root_of}
-use Rattle.tree_defs.specs.Topology.{Topology, after, IsPrefixOf, complete, IsWithin}
-use Rattle.tree_defs.proofs.Shapes.{topology_of-same, LeadsToLeaf-topology}
-use Rattle.tree_defs.proofs.TopologyLaws.{leads_to, after-append, after-is, within_complete, deep_leaf}
-use Rattle.embed_defs.specs.Embedding.{IsEmbedding}
-use Rattle.embed_defs.specs.Images.{image_map}
-use Rattle.embed_defs.specs.Placed.{IsApartFrom}
+use Rattle.embed_defs.proofs.Prelude.{[], ℕ, ◌≡◌, refl, ◌∷◌, ap, ◌∙◌, arith, suc, sym, length, List, ◌≤◌, Some, ◌++◌, ◌+◌, None, ◌<◌, subst, append-nil, length-append, topology_of-same, LeadsToLeaf-topology, after-append, after-is, deep_leaf, leads_to, within_complete, after, Topology, IsWithin, IsPrefixOf, complete, inner, leaf, more, none, Tree, Trees, root_of, SameShape, subtree_in, subtree, IsAddressOf, LeadsToLeaf, IsEmbedding, AreDeep, IsDeep, AreNested, IsNested, image_map, EmbeddingsAreGoodMaps, IsApartFrom}
+use Rattle.tree_defs.specs.Tree.{Address}
 use Rattle.embed_defs.proofs.Addresses.{after-sum, none_unless}
 use Rattle.embed_defs.proofs.Subtrees.{subtree-root, subtree-then, same_address}
-use Rattle.embed_defs.specs.GoodMaps.{IsDeep, AreDeep, IsNested, AreNested}
-use Rattle.embed_defs.specs.LiftLaws.{EmbeddingsAreGoodMaps}
 use Rattle.embed_defs.proofs.ImageLifts.{other_shape}
 
 -- a list within the arities is at most as long as they are

@@ -1,11 +1,5 @@
 -- The statements of the laws of the crate.
-use Rattle.std.proofs.Common.{ℕ, [], refl, sym, ap, ◌∙◌}
-use Rattle.tree_defs.specs.Tree.{Tree, root_of}
-use Rattle.tree_defs.specs.Topology.{Topology}
-use Rattle.embed_defs.specs.Levels.{Arities}
-use Rattle.embed_defs.specs.Need.{IsNeed, AreNeedsOf}
-use Rattle.embed_defs.specs.Canonical.{canonical}
-use Rattle.embed_defs.specs.Laws.{TopologiesHaveOneNeed, NeedsAreLeastHeights, EmbeddingsNeedRoom, CanonicalPlacementsAreEmbeddings, CanonicalPlacementsAreOne}
+use Rattle.embed_defs.proofs.Prelude.{[], ℕ, refl, ap, ◌∙◌, sym, Topology, Tree, root_of, canonical, CanonicalPlacementsAreEmbeddings, CanonicalPlacementsAreOne, EmbeddingsNeedRoom, NeedsAreLeastHeights, TopologiesHaveOneNeed, Arities, AreNeedsOf, IsNeed}
 use Rattle.embed_defs.proofs.EnoughHeights.{wide-positive}
 use Rattle.embed_defs.proofs.Needs.{one_needs, some_needs}
 use Rattle.embed_defs.proofs.Images.{canonical-embedding, need-embedding, has-embedding}

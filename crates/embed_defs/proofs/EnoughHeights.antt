@@ -1,12 +1,5 @@
 -- Some height is enough for any subtrees.
-use Rattle.std.proofs.Common.{ℕ, suc, ◌+◌, ◌*◌, ◌≤◌, List, [], ◌∷◌, arith}
-use Rattle.std.specs.Prelude.{sum_by}
-use Rattle.std.proofs.Math.Nat.{mul-le-mul_left}
-use Rattle.std.proofs.lemmas.List.Sums.{sum_by-cons}
-use Rattle.tree_defs.specs.Tree.{Tree, leaf, inner, Trees, none, more, root_of, nodes, nodes_below}
-use Rattle.embed_defs.specs.Levels.{Arities}
-use Rattle.embed_defs.specs.Need.{leaves_below, AreLower, FitsBelow, enough, needs_at, HoldsNeeds, HoldNeeds}
-use Rattle.embed_defs.specs.Laws.{AreWide}
+use Rattle.embed_defs.proofs.Prelude.{[], ℕ, ◌∷◌, arith, suc, List, ◌≤◌, ◌+◌, ◌*◌, mul-le-mul_left, sum_by-cons, sum_by, inner, leaf, more, none, Tree, Trees, root_of, nodes, nodes_below, AreWide, Arities, leaves_below, AreLower, HoldNeeds, HoldsNeeds, needs_at, FitsBelow, enough}
 use Rattle.embed_defs.proofs.Levels.{ArePositive, leaves-le}
 
 pub wide-positive : (a : Arities) → AreWide a → ArePositive a

@@ -1,20 +1,8 @@
 -- The lift under a good map's images is the lift under the parts of its placement.
-use Rattle.std.proofs.Common.{◌≡◌, ℕ, zero, suc, ◌↔◌, [], ◌∷◌, ◌++◌, Option, Some, None, refl, sym, ap, ◌∙◌, subst}
-use mathlib.Core.Path.{fun_ext}
-use Rattle.tree_defs.specs.Queue.{Queue}
-use Rattle.tree_defs.specs.Tree.{Tree, leaf, inner, none, more, Address, SameShape, subtree, subtree_in, IsAddressOf}
-use Rattle.tree_defs.specs.Topology.{IsPrefixOf}
-use Rattle.tree_defs.specs.SourceTree.{SourceTree}
-use Rattle.tree_defs.proofs.Shapes.{same_shape, topology_of-same}
-use Rattle.tree_defs.proofs.TopologyLaws.{after-is}
-use Rattle.embed_defs.specs.Family.{Family, SameQueues}
-use Rattle.embed_defs.specs.Images.{image_map}
-use Rattle.embed_defs.specs.Placed.{Placement, Placements, part, lift_digits, IsPlaced}
+use Rattle.embed_defs.proofs.Prelude.{[], ℕ, ◌≡◌, refl, ◌∷◌, ap, ◌∙◌, suc, sym, Some, zero, ◌++◌, None, subst, Option, ◌↔◌, fun_ext, same_shape, topology_of-same, after-is, Queue, SourceTree, IsPrefixOf, inner, leaf, more, none, Tree, SameShape, subtree_in, subtree, IsAddressOf, Family, SameQueues, image_map, digit_beyond, IsLift, passing_by, IsLongestAt, StandsAt, Maps, lift, placement_of, Placement, IsPlaced, Placements, lift_digits, part}
+use Rattle.tree_defs.specs.Tree.{Address}
 use Rattle.embed_defs.proofs.Addresses.{none_unless}
 use Rattle.embed_defs.proofs.Subtrees.{same_address, subtree-then}
-use Rattle.embed_defs.specs.Lift.{digit_beyond, passing_by, IsLongestAt, StandsAt, IsLift}
-use Rattle.embed_defs.specs.Lifting.{placement_of, lift}
-use Rattle.embed_defs.specs.LiftLaws.{Maps}
 use Rattle.embed_defs.proofs.LiftAddresses.{digit_beyond-sum}
 use Rattle.embed_defs.proofs.LiftLaw.{image-append, lift-law}
 use Rattle.embed_defs.proofs.LongestPrefixes.{lift-one}

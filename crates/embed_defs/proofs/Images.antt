@@ -1,17 +1,7 @@
 -- The canonical images are an embedding, and an embedding exists exactly if there is room for the
 -- needs.
-use Rattle.std.proofs.Common.{◌≡◌, ℕ, zero, suc, ◌↔◌, List, [], ◌∷◌, ◌++◌, Some, refl, sym, ap, ◌∙◌, subst, append_assoc, append-nil}
-use Rattle.std.specs.Prelude.{option_map}
-use Rattle.tree_defs.specs.Tree.{Tree, leaf, inner, Trees, none, more, Address, SameShape, subtree, subtree_in, IsAddressOf, root_of}
-use Rattle.tree_defs.specs.Topology.{Topology, complete}
-use Rattle.tree_defs.proofs.Shapes.{topology_of-same, same_shape}
-use Rattle.tree_defs.proofs.TopologyLaws.{leaf_at}
-use Rattle.embed_defs.specs.Levels.{Arities, down_from}
-use Rattle.embed_defs.specs.Embedding.{IsEmbedding, HasEmbedding}
-use Rattle.embed_defs.specs.Need.{IsLeast, AreNeedsOf, HasHeight, IsNeed}
-use Rattle.embed_defs.specs.Canonical.{Child, image_part, children, canonical, canonicals}
-use Rattle.embed_defs.specs.Images.{image_at, image_map}
-use Rattle.embed_defs.specs.Placed.{part, lift_digits, digits_below}
+use Rattle.embed_defs.proofs.Prelude.{[], ℕ, ◌≡◌, refl, ◌∷◌, ap, ◌∙◌, suc, sym, List, Some, zero, ◌++◌, subst, append-nil, append_assoc, ◌↔◌, option_map, same_shape, topology_of-same, leaf_at, Topology, complete, inner, leaf, more, none, Tree, Trees, root_of, SameShape, subtree_in, subtree, IsAddressOf, Child, canonical, image_part, children, canonicals, IsEmbedding, HasEmbedding, image_map, image_at, Arities, down_from, AreNeedsOf, HasHeight, IsNeed, IsLeast, lift_digits, part, digits_below}
+use Rattle.tree_defs.specs.Tree.{Address}
 use Rattle.embed_defs.proofs.Levels.{ArePositive}
 use Rattle.embed_defs.proofs.Subtrees.{same_address}
 use Rattle.embed_defs.proofs.CanonicalPlaced.{parts, child_parts, own_height, needs-roomy, parts-good}

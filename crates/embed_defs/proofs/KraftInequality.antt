@@ -1,10 +1,6 @@
 -- If no address is a prefix of another, the subtrees below the addresses fit side by side.
-use Rattle.std.proofs.Common.{◌≡◌, ℕ, zero, suc, ◌+◌, ◌-◌, ◌*◌, ◌<◌, ◌≤◌, eqb, List, [], ◌∷◌, length, refl, sym, ap, subst, arith, inl, inr, eq-eqb}
-use Rattle.std.proofs.lemmas.Bool.{cases_lt, cases_Bool, ne_eqb}
+use Rattle.embed_defs.proofs.Prelude.{[], ℕ, ◌≡◌, refl, ◌∷◌, ap, arith, suc, sym, length, List, ◌≤◌, zero, ◌+◌, ◌-◌, ◌<◌, subst, inl, inr, eqb, eq-eqb, ◌*◌, cases_Bool, cases_lt, ne_eqb, IsWithin, Arities, down_from, leaves_below}
 use Rattle.tree_defs.specs.Tree.{Address}
-use Rattle.tree_defs.specs.Topology.{IsWithin}
-use Rattle.embed_defs.specs.Levels.{Arities, down_from}
-use Rattle.embed_defs.specs.Need.{leaves_below}
 use Rattle.embed_defs.proofs.PrefixFree.{AreApart, AreNonempty, alone, branch, branch-apart}
 
 -- the number of leaves below the addresses

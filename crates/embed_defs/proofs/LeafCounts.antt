@@ -1,9 +1,5 @@
 -- The leaves of a target, counted from the root down.
-use Rattle.std.proofs.Common.{◌≡◌, ℕ, zero, suc, ◌+◌, ◌*◌, ◌<◌, ◌≤◌, List, [], ◌∷◌, length, drop, get_or, arith}
-use Rattle.std.proofs.Math.Nat.{mul-le-mul_left}
-use Rattle.std.proofs.lemmas.List.{drop_more}
-use Rattle.std.specs.List.{AllByRecursion}
-use Rattle.embed_defs.specs.Target.{IsArity, leaves}
+use Rattle.embed_defs.proofs.Prelude.{[], ℕ, ◌≡◌, ◌∷◌, arith, suc, length, List, ◌≤◌, zero, ◌+◌, ◌<◌, drop, ◌*◌, get_or, mul-le-mul_left, drop_more, AllByRecursion, IsArity, leaves}
 
 abbrev pub AreNarrow : List ℕ → Type 0
 AreNarrow = AllByRecursion IsArity

@@ -1,7 +1,5 @@
 -- Placements whose leaves have images with one digit for each level of the tree.
-use Rattle.std.proofs.Common.{◌≡◌, ℕ, ◌-◌, ◌≤◌, length}
-use Rattle.tree_defs.specs.Tree.{leaf, inner, none, more, root_of}
-use Rattle.embed_defs.specs.Placed.{Placement, Placements}
+use Rattle.embed_defs.proofs.Prelude.{ℕ, ◌≡◌, length, ◌≤◌, ◌-◌, inner, leaf, more, none, root_of, Placement, Placements}
 
 -- each leaf's image has h digits after those of the root's image
 abbrev mutual

@@ -1,14 +1,8 @@
 -- The number of the leaf that digits lead to.
-use Rattle.std.proofs.Common.{◌≡◌, ℕ, zero, suc, ◌+◌, ◌*◌, ◌/◌, ◌%◌, ◌<◌, ◌≤◌, [], ◌∷◌, length, replicate, get_or, refl, ap, ◌∙◌, arith}
-use Rattle.std.proofs.Math.Nat.{mul-le-mul_left}
+use Rattle.embed_defs.proofs.Prelude.{[], ℕ, ◌≡◌, refl, ◌∷◌, ap, ◌∙◌, arith, suc, length, ◌≤◌, zero, ◌+◌, ◌<◌, replicate, ◌*◌, get_or, ◌%◌, ◌/◌, mul-le-mul_left, length-set, IsWithin, digits, Arities, down_from, leaves_below}
 use Rattle.std.proofs.Math.ListN.{set}
 use Rattle.std.proofs.lemmas.Nat.{div-mul-add}
-use Rattle.std.proofs.lemmas.List.{length-set}
 use Rattle.tree_defs.specs.Tree.{Address}
-use Rattle.tree_defs.specs.Topology.{IsWithin}
-use Rattle.embed_defs.specs.Levels.{Arities, down_from}
-use Rattle.embed_defs.specs.Need.{leaves_below}
-use Rattle.embed_defs.specs.Canonical.{digits}
 use Rattle.embed_defs.specs.Counting.{value}
 use Rattle.embed_defs.proofs.Levels.{ArePositive}
 

@@ -1,13 +1,8 @@
 -- The lowest levels of a target, with one level added at a time.
-use Rattle.std.proofs.Common.{◌≡◌, ℕ, zero, suc, ◌-◌, ◌<◌, ◌≤◌, List, ◌∷◌, length, drop, slice_index, nat_lt, refl, sym, ap, ◌∙◌, arith, inl, inr}
+use Rattle.embed_defs.proofs.Prelude.{ℕ, ◌≡◌, refl, ◌∷◌, ap, ◌∙◌, arith, suc, sym, length, List, ◌≤◌, zero, ◌-◌, ◌<◌, inl, inr, drop, nat_lt, cases_Bool, ltb-true, ltb-false, drop_all, AllByRecursion, slice_index, down_from, levels, IsArity, lowest}
 use Rattle.std.proofs.lemmas.Grind.{common_steps}
-use Rattle.std.specs.List.{AllByRecursion}
 use Rattle.std.proofs.Math.Seq.{drop-cons}
-use Rattle.std.proofs.lemmas.List.{drop_all}
-use Rattle.std.proofs.lemmas.Bool.{cases_Bool, ltb-true, ltb-false}
-use Rattle.embed_defs.specs.Target.{IsArity, lowest}
 use Rattle.embed_defs.specs.TargetLaws.{HeightsAreInRange}
-use Rattle.embed_defs.specs.Levels.{levels, down_from}
 
 -- the added level is one of the target's own
 own_level : (ds : List ℕ) (above h : ℕ) → h < length ds → lowest ds above (suc h) ≡ slice_index ds (length ds - 1 - h) ∷ lowest ds above h

@@ -1,10 +1,6 @@
 -- The number of leaves below a node, and addresses that continue below a node.
-use Rattle.std.proofs.Common.{◌≡◌, ℕ, zero, suc, ◌+◌, ◌-◌, ◌*◌, ◌<◌, ◌≤◌, [], ◌∷◌, ◌++◌, length, refl, ap, arith}
-use Rattle.std.proofs.Math.Nat.{mul-le-mul_left}
+use Rattle.embed_defs.proofs.Prelude.{[], ℕ, ◌≡◌, refl, ◌∷◌, ap, arith, suc, length, ◌≤◌, zero, ◌++◌, ◌+◌, ◌-◌, ◌<◌, ◌*◌, mul-le-mul_left, IsWithin, Arities, down_from, leaves_below}
 use Rattle.tree_defs.specs.Tree.{Address}
-use Rattle.tree_defs.specs.Topology.{IsWithin}
-use Rattle.embed_defs.specs.Levels.{Arities, down_from}
-use Rattle.embed_defs.specs.Need.{leaves_below}
 
 -- each level has nodes
 abbrev pub ArePositive : Arities → Type 0

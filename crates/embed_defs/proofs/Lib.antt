@@ -1,3 +1,4 @@
+pub mod Prelude
 pub mod Levels
 pub mod Addresses
 pub mod CarriedCounts

@@ -1,12 +1,7 @@
 -- Addresses that pass others, and a push along an address with a given prefix.
-use Rattle.std.proofs.Common.{◌≡◌, ℕ, true, eqb, List, [], ◌∷◌, ◌++◌, length, replicate, Some, None, refl, sym, ap, ◌∙◌, eq-eqb, inl, inr}
-use Rattle.std.proofs.lemmas.Bool.{eqb-true, cases_Bool}
-use Rattle.tree_defs.specs.Queue.{put}
+use Rattle.embed_defs.proofs.Prelude.{[], ℕ, ◌≡◌, refl, ◌∷◌, ap, ◌∙◌, sym, length, List, Some, ◌++◌, None, inl, inr, eqb, eq-eqb, replicate, true, cases_Bool, eqb-true, put, after, Family, below, push_along, digit_beyond}
 use Rattle.tree_defs.specs.Tree.{Address}
-use Rattle.tree_defs.specs.Topology.{after}
-use Rattle.embed_defs.specs.Family.{Family, push_along, below}
 use Rattle.embed_defs.proofs.Addresses.{some_of_cond}
-use Rattle.embed_defs.specs.Lift.{digit_beyond}
 
 pub digit_beyond-sum : (e f c : Address) → digit_beyond (e ++ f) (e ++ c) ≡ digit_beyond f c
 digit_beyond-sum [] f c = refl

@@ -1,17 +1,9 @@
 -- The lift by recursion on tree and placement agrees, at each address, with the definition by the
 -- longest address above it.
-use Rattle.std.proofs.Common.{◌≡◌, ℕ, zero, suc, ◌≤◌, [], ◌∷◌, ◌++◌, length, Option, Some, None, refl, sym, ap, ◌∙◌, subst, arith, append_assoc, append-nil, length-append}
-use Rattle.std.specs.Prelude.{unwrap_or}
-use mathlib.Core.Path.{fun_ext}
-use Rattle.tree_defs.specs.Queue.{Queue}
-use Rattle.tree_defs.specs.Tree.{Tree, leaf, inner, Trees, none, more, Address, HasChild, SameShape, SameShapes, subtree, subtree_in, IsAddressOf}
-use Rattle.tree_defs.specs.Topology.{after}
-use Rattle.tree_defs.proofs.TopologyLaws.{after-append, after-is}
-use Rattle.embed_defs.specs.Placed.{Placement, Placements, part, IsPlaced, ArePlaced, lift_digits, digits_below}
+use Rattle.embed_defs.proofs.Prelude.{[], ℕ, ◌≡◌, refl, ◌∷◌, ap, ◌∙◌, arith, suc, sym, length, ◌≤◌, Some, zero, ◌++◌, None, subst, append-nil, length-append, Option, append_assoc, unwrap_or, fun_ext, after-append, after-is, Queue, after, inner, leaf, more, none, Tree, Trees, SameShape, SameShapes, subtree_in, subtree, IsAddressOf, HasChild, digit_beyond, IsLift, passing_by, IsLongestAt, StandsAt, lift, lift_below, digit_at, lift_child, passing, Placement, IsPlaced, Placements, ArePlaced, lift_digits, part, digits_below}
+use Rattle.tree_defs.specs.Tree.{Address}
 use Rattle.embed_defs.proofs.Addresses.{after-sum, none_unless}
 use Rattle.embed_defs.proofs.Subtrees.{subtree-then}
-use Rattle.embed_defs.specs.Lift.{digit_beyond, passing_by, IsLongestAt, StandsAt, IsLift}
-use Rattle.embed_defs.specs.Lifting.{digit_at, passing, lift, lift_below, lift_child}
 use Rattle.embed_defs.proofs.LiftAddresses.{digit_beyond-sum}
 use Rattle.embed_defs.proofs.LiftPush.{lift_at_child}
 

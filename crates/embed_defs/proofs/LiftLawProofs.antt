@@ -1,20 +1,7 @@
 -- The laws of the lift.
-use Rattle.std.proofs.Common.{◌≡◌, ℕ, ◌-◌, List, [], ◌∷◌, length, Option, Some, None, refl, sym, ap, ◌∙◌, subst, arith}
-use Rattle.std.specs.Prelude.{unwrap_or, option_map}
-use mathlib.Core.Path.{fun_ext}
-use Rattle.tree_defs.specs.Queue.{Queue}
-use Rattle.tree_defs.specs.Tree.{Tree, leaf, inner, Trees, none, more, Address, Popping, LeadsToLeaf, root_of}
-use Rattle.tree_defs.specs.Topology.{Topology, after}
-use Rattle.tree_defs.specs.SourceTree.{SourceTree, empty_tree, empty_trees, push, pop, IsWellFormed}
-use Rattle.tree_defs.proofs.Shapes.{same_shape, topology_of-same, topology_of-push, topology_of-pop, pop-path}
-use Rattle.tree_defs.proofs.TopologyLaws.{leaf_at}
+use Rattle.embed_defs.proofs.Prelude.{[], ℕ, ◌≡◌, refl, ◌∷◌, ap, ◌∙◌, arith, sym, length, List, Some, ◌-◌, None, subst, Option, option_map, unwrap_or, fun_ext, same_shape, topology_of-same, pop-path, topology_of-pop, topology_of-push, leaf_at, Queue, SourceTree, pop, push, IsWellFormed, empty_tree, empty_trees, after, Topology, inner, leaf, more, none, Tree, Trees, root_of, LeadsToLeaf, Popping, Family, push_along, pop_along, image_map, lift_ranks, IsLift, Maps, EmptyTreesHaveEmptyLifts, IsLiftedPop, LiftsAreOne, MapsStay, PopsOfLiftsAreLiftedPops, PushesOfLiftsAreLifts, lift, lift_below, placement_of, placed_ranks, lifted, Placement, Placements, lift_digits}
+use Rattle.tree_defs.specs.Tree.{Address}
 use Rattle.tree_defs.proofs.WellFormedLaws.{in_range}
-use Rattle.embed_defs.specs.Family.{Family, push_along, pop_along}
-use Rattle.embed_defs.specs.Images.{image_map}
-use Rattle.embed_defs.specs.Placed.{Placement, Placements, lift_digits}
-use Rattle.embed_defs.specs.Lift.{IsLift, lift_ranks}
-use Rattle.embed_defs.specs.Lifting.{placement_of, lift, lift_below, lifted, placed_ranks}
-use Rattle.embed_defs.specs.LiftLaws.{Maps, LiftsAreOne, EmptyTreesHaveEmptyLifts, PushesOfLiftsAreLifts, PopsOfLiftsAreLiftedPops, IsLiftedPop, MapsStay}
 use Rattle.embed_defs.proofs.ImageLifts.{shape, is_placed, agrees, is-lift, lift-is}
 use Rattle.embed_defs.proofs.LeafHeights.{IsOfHeight}
 use Rattle.embed_defs.proofs.LiftPush.{lift-push}

@@ -1,21 +1,9 @@
 -- A pop of the lift of a tree is the lifted pop of the tree.
-use Rattle.std.proofs.Common.{◌≡◌, ◌≢◌, ℕ, zero, suc, ◌+◌, ◌-◌, ◌≤◌, true, eqb, [], ◌∷◌, ◌++◌, length, replicate, Option, Some, None, refl, sym, ap, ◌∙◌, subst, arith, inl, inr, eq-eqb, zero-add}
-use Rattle.std.specs.Prelude.{unwrap_or, option_map}
-use Rattle.std.proofs.lemmas.Bool.{eqb-true, cases_Bool}
-use mathlib.Core.Path.{fun_ext}
-use Rattle.tree_defs.specs.Queue.{Queue, Taking, take_least, take_from}
-use Rattle.tree_defs.specs.Tree.{Tree, leaf, inner, Trees, none, more, Address, Popping, HasChild, SameShape, SameShapes, root_of}
-use Rattle.tree_defs.specs.Topology.{after}
-use Rattle.tree_defs.specs.SourceTree.{pop, pop_child, of_leaf, of_inner, of_first, of_later, IsInRange, AreInRange}
+use Rattle.embed_defs.proofs.Prelude.{[], ℕ, ◌≡◌, refl, ◌∷◌, ap, ◌∙◌, arith, suc, sym, length, ◌≤◌, Some, zero, ◌++◌, ◌+◌, ◌-◌, None, subst, inl, inr, ◌≢◌, Option, eqb, eq-eqb, replicate, true, zero-add, cases_Bool, eqb-true, option_map, unwrap_or, fun_ext, same_shapes, topologies_of-pop, topologies_of-same, after-append, Queue, Taking, take_from, take_least, pop, AreInRange, IsInRange, of_first, of_inner, of_later, of_leaf, pop_child, after, inner, leaf, more, none, Tree, Trees, root_of, SameShape, SameShapes, HasChild, Popping, Family, below, pop_along, popped_digit, popped_last, with_branch, with_root, digit_beyond, lift, lift_below, digit_at, lift_child, passing, placed_ranks_below, first_of_two, lifted, lifted_child, Placement, IsPlaced, Placements, ArePlaced, part, digits_below}
+use Rattle.tree_defs.specs.Tree.{Address}
 use Rattle.tree_defs.proofs.Options.{option_map-some}
-use Rattle.tree_defs.proofs.Shapes.{topologies_of-same, same_shapes, topologies_of-pop}
-use Rattle.tree_defs.proofs.TopologyLaws.{after-append}
 use Rattle.tree_defs.proofs.WellFormedLaws.{taken_names, pop_child-has_child}
-use Rattle.embed_defs.specs.Family.{Family, below, pop_along, popped_last, popped_digit, with_root, with_branch}
-use Rattle.embed_defs.specs.Placed.{Placement, Placements, part, IsPlaced, ArePlaced, digits_below}
 use Rattle.embed_defs.proofs.Addresses.{some_of_cond}
-use Rattle.embed_defs.specs.Lift.{digit_beyond}
-use Rattle.embed_defs.specs.Lifting.{digit_at, passing, lift, lift_below, lift_child, first_of_two, placed_ranks_below, lifted, lifted_child}
 use Rattle.embed_defs.proofs.LeafHeights.{IsOfHeight, AreOfHeight}
 use Rattle.embed_defs.proofs.LiftPush.{lift_at_child, transit_below}
 use Rattle.embed_defs.proofs.PassedEntries.{passing_by-rest, take_least-passing}

@@ -1,20 +1,10 @@
 -- A push along the lifted path gives the lift of the tree after the push.
-use Rattle.std.proofs.Common.{◌≡◌, ◌≢◌, ℕ, zero, suc, List, [], ◌∷◌, ◌++◌, length, replicate, Option, Some, None, refl, sym, ap, ◌∙◌, append-nil}
-use Rattle.std.specs.Prelude.{unwrap_or, option_map, slice_index, drop}
+use Rattle.embed_defs.proofs.Prelude.{[], ℕ, ◌≡◌, refl, ◌∷◌, ap, ◌∙◌, suc, sym, length, List, Some, zero, ◌++◌, None, ◌≢◌, append-nil, Option, drop, replicate, option_map, unwrap_or, slice_index, fun_ext, after-append, Queue, put, push, push_child, after, inner, leaf, more, none, Tree, Trees, root_of, SameShape, SameShapes, LeadsToLeaf, HasChild, LeadsBelow, Family, push_along, digit_beyond, passing_by, lift, lift_below, digit_at, lift_child, passing, placed_ranks, placed_ranks_below, first_of_two, Placement, IsPlaced, Placements, ArePlaced, lift_digits, IsApartFrom, part, digits_below}
 use Rattle.std.proofs.lemmas.List.Elements.{filter_map-append}
-use mathlib.Core.Path.{fun_ext}
-use Rattle.tree_defs.specs.Queue.{Queue, put}
-use Rattle.tree_defs.specs.Tree.{Tree, leaf, inner, Trees, none, more, Address, LeadsToLeaf, LeadsBelow, HasChild, SameShape, SameShapes, root_of}
-use Rattle.tree_defs.specs.Topology.{after}
-use Rattle.tree_defs.specs.SourceTree.{push, push_child}
-use Rattle.tree_defs.proofs.TopologyLaws.{after-append}
+use Rattle.tree_defs.specs.Tree.{Address}
 use Rattle.tree_defs.proofs.WellFormedLaws.{leads_has}
-use Rattle.embed_defs.specs.Family.{Family, push_along}
-use Rattle.embed_defs.specs.Placed.{Placement, Placements, part, IsApartFrom, IsPlaced, ArePlaced, lift_digits, digits_below}
 use Rattle.embed_defs.proofs.Addresses.{one_prefix}
 use Rattle.embed_defs.proofs.PlacedEmbeddings.{apart_part}
-use Rattle.embed_defs.specs.Lift.{digit_beyond, passing_by}
-use Rattle.embed_defs.specs.Lifting.{digit_at, passing, lift, lift_below, lift_child, first_of_two, placed_ranks, placed_ranks_below}
 use Rattle.embed_defs.proofs.LiftAddresses.{none_above, not_after, push_after, push_at_transit, push_elsewhere}
 
 -- no child's part is empty

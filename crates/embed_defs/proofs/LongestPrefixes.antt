@@ -1,17 +1,9 @@
 -- For each address of the complete tree there is a longest source address whose image is a prefix
 -- of it, so there is exactly one lift.
-use Rattle.std.proofs.Common.{◌≡◌, ◌≢◌, ℕ, zero, suc, ◌≤◌, ◌⊎◌, [], ◌∷◌, ◌++◌, length, Option, Some, None, refl, sym, ap, ◌∙◌, arith, inl, inr, append_assoc, append-nil, length-append}
-use Rattle.tree_defs.specs.Queue.{Queue}
-use Rattle.tree_defs.specs.Tree.{Tree, leaf, inner, Trees, none, more, Address, SameShape, SameShapes, subtree, subtree_in, root_of}
-use Rattle.tree_defs.specs.Topology.{after, IsPrefixOf}
-use Rattle.tree_defs.specs.SourceTree.{SourceTree}
-use Rattle.tree_defs.proofs.TopologyLaws.{after-append, after-is}
-use Rattle.embed_defs.specs.Placed.{Placement, Placements, part, IsPlaced, ArePlaced, lift_digits, digits_below}
+use Rattle.embed_defs.proofs.Prelude.{[], ℕ, ◌≡◌, refl, ◌∷◌, ap, ◌∙◌, arith, suc, sym, length, ◌≤◌, Some, zero, ◌++◌, None, inl, inr, ◌≢◌, append-nil, length-append, Option, append_assoc, ◌⊎◌, after-append, after-is, Queue, SourceTree, after, IsPrefixOf, inner, leaf, more, none, Tree, Trees, root_of, SameShape, SameShapes, subtree_in, subtree, Family, IsLift, IsLongestAt, StandsAt, lift, Placement, IsPlaced, Placements, ArePlaced, lift_digits, part, digits_below}
+use Rattle.tree_defs.specs.Tree.{Address}
 use Rattle.embed_defs.proofs.Addresses.{after-sum, one_prefix}
 use Rattle.embed_defs.proofs.PlacedEmbeddings.{apart_part}
-use Rattle.embed_defs.specs.Family.{Family}
-use Rattle.embed_defs.specs.Lift.{IsLongestAt, StandsAt, IsLift}
-use Rattle.embed_defs.specs.Lifting.{lift}
 use Rattle.embed_defs.proofs.LiftLaw.{lift-law}
 
 -- the longest address at or below the children whose image is a prefix of b

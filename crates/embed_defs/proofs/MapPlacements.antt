@@ -1,17 +1,8 @@
 -- A good map's images without their parents' prefixes are a placement. Each image is the
 -- concatenation of the parts on the path to it.
-use Rattle.std.proofs.Common.{◌≡◌, ◌≢◌, ℕ, zero, suc, ◌-◌, ◌<◌, List, [], ◌∷◌, ◌++◌, length, drop, replicate, Some, refl, sym, ap, ◌∙◌, subst, arith, append_assoc, append-nil, length-drop}
-use Rattle.std.specs.Prelude.{option_map, slice_index}
-use Rattle.std.proofs.lemmas.List.{drop_at}
-use Rattle.tree_defs.specs.Tree.{Tree, leaf, inner, Trees, none, more, Address, subtree, subtree_in, root_of, SameShape, SameShapes}
-use Rattle.tree_defs.specs.Topology.{after, IsPrefixOf}
-use Rattle.tree_defs.proofs.TopologyLaws.{after-is}
-use Rattle.embed_defs.specs.Images.{image_at, image_map}
-use Rattle.embed_defs.specs.Placed.{part, IsApartFrom, IsPlaced, ArePlaced, lift_digits, digits_below}
+use Rattle.embed_defs.proofs.Prelude.{[], ℕ, ◌≡◌, refl, ◌∷◌, ap, ◌∙◌, arith, suc, sym, length, List, Some, zero, ◌++◌, ◌-◌, ◌<◌, subst, ◌≢◌, append-nil, drop, replicate, append_assoc, length-drop, drop_at, option_map, slice_index, after-is, after, IsPrefixOf, inner, leaf, more, none, Tree, Trees, root_of, SameShape, SameShapes, subtree_in, subtree, AreDeep, IsDeep, AreNested, IsNested, image_map, image_at, lift_ranks, lift_ranks_below, placed_ranks, placed_ranks_below, relative, relatives, IsPlaced, ArePlaced, lift_digits, IsApartFrom, part, digits_below}
+use Rattle.tree_defs.specs.Tree.{Address}
 use Rattle.embed_defs.proofs.Addresses.{after-sum}
-use Rattle.embed_defs.specs.Lift.{lift_ranks, lift_ranks_below}
-use Rattle.embed_defs.specs.GoodMaps.{IsDeep, AreDeep, IsNested, AreNested}
-use Rattle.embed_defs.specs.Lifting.{relative, relatives, placed_ranks, placed_ranks_below}
 use Rattle.embed_defs.proofs.LeafHeights.{IsOfHeight, AreOfHeight}
 
 root-relative : (n : ℕ) (m : Tree Address) → root_of (relative n m) ≡ drop n (root_of m)

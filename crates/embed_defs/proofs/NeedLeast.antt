@@ -1,12 +1,6 @@
 -- A complete tree in which a tree is placed is at least as high as the need.
-use Rattle.std.proofs.Common.{◌≡◌, ◌≢◌, ℕ, ◌-◌, ◌≤◌, List, [], ◌∷◌, length, refl, arith}
-use Rattle.std.specs.Prelude.{sum_by}
-use Rattle.std.proofs.lemmas.List.Sums.{sum_by-cons}
-use Rattle.tree_defs.specs.Tree.{Tree, leaf, inner, Trees, none, more, Address, SameShape, SameShapes, root_of}
-use Rattle.tree_defs.specs.Topology.{IsWithin}
-use Rattle.embed_defs.specs.Levels.{Arities, down_from}
-use Rattle.embed_defs.specs.Need.{leaves_below, needs_at, AreLower, HoldsNeeds, HoldNeeds}
-use Rattle.embed_defs.specs.Placed.{Placement, Placements, IsApartFrom, IsPlaced, ArePlaced}
+use Rattle.embed_defs.proofs.Prelude.{[], ℕ, ◌≡◌, refl, ◌∷◌, arith, length, List, ◌≤◌, ◌-◌, ◌≢◌, sum_by-cons, sum_by, IsWithin, inner, leaf, more, none, Tree, Trees, root_of, SameShape, SameShapes, Arities, down_from, leaves_below, AreLower, HoldNeeds, HoldsNeeds, needs_at, Placement, IsPlaced, Placements, ArePlaced, IsApartFrom}
+use Rattle.tree_defs.specs.Tree.{Address}
 use Rattle.embed_defs.proofs.Levels.{ArePositive, leaves-le, address-short}
 use Rattle.embed_defs.proofs.PrefixFree.{IsApart, AreApart}
 use Rattle.embed_defs.proofs.KraftInequality.{weight, AreAddressesIn, kraft}

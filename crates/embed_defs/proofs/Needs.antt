@@ -1,12 +1,5 @@
 -- Each topology has exactly one tree of needs.
-use Rattle.std.proofs.Common.{◌≡◌, ℕ, zero, suc, ◌+◌, ◌≤◌, ◌⊎◌, List, [], ◌∷◌, refl, sym, ap, ◌∙◌, subst, arith, inl, inr}
-use Rattle.std.specs.Prelude.{sum_by}
-use Rattle.std.proofs.lemmas.Bool.{cases_lt}
-use Rattle.tree_defs.specs.Tree.{Tree, leaf, inner, Trees, none, more, SameShape, SameShapes}
-use Rattle.tree_defs.specs.Topology.{Topology}
-use Rattle.embed_defs.specs.Levels.{Arities}
-use Rattle.embed_defs.specs.Need.{IsLeast, leaves_below, AreLower, FitsBelow, enough, needs_at, HoldsNeeds, HoldNeeds, AreNeedsOf}
-use Rattle.embed_defs.specs.Laws.{AreWide}
+use Rattle.embed_defs.proofs.Prelude.{[], ℕ, ◌≡◌, refl, ◌∷◌, ap, ◌∙◌, arith, suc, sym, List, ◌≤◌, zero, ◌+◌, subst, inl, inr, ◌⊎◌, cases_lt, sum_by, Topology, inner, leaf, more, none, Tree, Trees, SameShape, SameShapes, AreWide, Arities, leaves_below, AreLower, AreNeedsOf, HoldNeeds, HoldsNeeds, needs_at, FitsBelow, IsLeast, enough}
 use Rattle.embed_defs.proofs.EnoughHeights.{enough-fits}
 
 -- two different heights can't both be the least

@@ -1,11 +1,6 @@
 -- Pops of the queue of passing entries.
-use Rattle.std.proofs.Common.{◌≡◌, ℕ, ◌≤◌, ◌<◌, [], ◌∷◌, Option, Some, None, refl, sym, ap, ◌∙◌, subst, inl, inr}
-use Rattle.std.proofs.lemmas.Bool.{lt-leb, cases_lt}
-use Rattle.std.specs.Prelude.{option_map}
-use Rattle.std.specs.List.{cons_option}
-use Rattle.tree_defs.specs.Queue.{Queue, Entry, Taking, take_from, take_least}
+use Rattle.embed_defs.proofs.Prelude.{[], ℕ, ◌≡◌, refl, ◌∷◌, ap, ◌∙◌, sym, ◌≤◌, Some, None, ◌<◌, subst, inl, inr, Option, cases_lt, lt-leb, cons_option, option_map, Queue, Taking, take_from, take_least, Entry, passing_by}
 use Rattle.tree_defs.proofs.TakeLeast.{NoneBelow, NoneBelow-le, take_from-front, take_from-behind, take_from-least, take_from-first, take_from-sooner}
-use Rattle.embed_defs.specs.Lift.{passing_by}
 
 module _ (g : ℕ → Option ℕ) where
   pub passing_by-none : (r v : ℕ) (q : Queue) → g v ≡ None → passing_by g ((r, v) ∷ q) ≡ passing_by g q

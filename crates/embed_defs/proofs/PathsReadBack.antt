@@ -1,18 +1,8 @@
 -- A path can be read back from its image and its lifted ranks.
-use Rattle.std.proofs.Common.{◌≡◌, ℕ, zero, suc, ◌+◌, ◌-◌, ◌<◌, List, [], ◌∷◌, ◌++◌, length, replicate, Some, refl, sym, ap, ◌∙◌, arith, append_assoc, append-nil, length-append}
-use Rattle.std.specs.Prelude.{slice_index}
-use Rattle.std.proofs.lemmas.List.{length-replicate}
-use Rattle.tree_defs.specs.Tree.{Tree, leaf, inner, Trees, none, more, Address, LeadsToLeaf, LeadsBelow, SameShape, subtree, root_of}
-use Rattle.tree_defs.specs.Topology.{after, IsPrefixOf}
-use Rattle.tree_defs.proofs.TopologyLaws.{after-append, after-is}
-use Rattle.tree_defs.proofs.Shapes.{same_shape}
-use Rattle.embed_defs.specs.Placed.{Placement, lift_digits}
+use Rattle.embed_defs.proofs.Prelude.{[], ℕ, ◌≡◌, refl, ◌∷◌, ap, ◌∙◌, arith, suc, sym, length, List, Some, zero, ◌++◌, ◌+◌, ◌-◌, ◌<◌, append-nil, length-append, replicate, append_assoc, length-replicate, slice_index, same_shape, after-append, after-is, after, IsPrefixOf, inner, leaf, more, none, Tree, Trees, root_of, SameShape, subtree, LeadsToLeaf, LeadsBelow, AreDeep, IsDeep, lift_ranks, lift_ranks_below, picked_ranks, picked_ranks_below, NodesHaveImagesOfTheirOwn, PickedRanksAreThoseLifted, placement_of, Placement, lift_digits}
+use Rattle.tree_defs.specs.Tree.{Address}
 use Rattle.embed_defs.proofs.PlacedEmbeddings.{prefix_back}
 use Rattle.embed_defs.proofs.Subtrees.{same_address}
-use Rattle.embed_defs.specs.Lift.{lift_ranks, lift_ranks_below, picked_ranks, picked_ranks_below}
-use Rattle.embed_defs.specs.GoodMaps.{IsDeep, AreDeep}
-use Rattle.embed_defs.specs.Lifting.{placement_of}
-use Rattle.embed_defs.specs.LiftLaws.{PickedRanksAreThoseLifted, NodesHaveImagesOfTheirOwn}
 use Rattle.embed_defs.proofs.MapPlacements.{placed, image-is, shape-relative}
 
 -- ---- the ranks

@@ -1,11 +1,6 @@
 -- A placement is an embedding.
-use Rattle.std.proofs.Common.{◌≡◌, ◌≢◌, ℕ, zero, suc, ◌-◌, [], ◌∷◌, ◌++◌, length, Some, None, refl, sym, ap, ◌∙◌, subst, arith, length-append, append_assoc}
-use Rattle.tree_defs.specs.Tree.{leaf, inner, none, more, Address, SameShape, subtree, subtree_in, IsAddressOf, LeadsToLeaf, root_of}
-use Rattle.tree_defs.specs.Topology.{Topology, after, IsPrefixOf, complete, IsWithin}
-use Rattle.tree_defs.proofs.TopologyLaws.{leaf_at, after-append, after-is, address_of_complete, leaf_of_complete}
-use Rattle.embed_defs.specs.Levels.{Arities, down_from}
-use Rattle.embed_defs.specs.Embedding.{IsEmbedding}
-use Rattle.embed_defs.specs.Placed.{Placement, Placements, part, IsApartFrom, IsPlaced, ArePlaced, lift_digits, digits_below}
+use Rattle.embed_defs.proofs.Prelude.{[], ℕ, ◌≡◌, refl, ◌∷◌, ap, ◌∙◌, arith, suc, sym, length, Some, zero, ◌++◌, ◌-◌, None, subst, ◌≢◌, length-append, append_assoc, after-append, after-is, leaf_at, address_of_complete, leaf_of_complete, after, Topology, IsWithin, IsPrefixOf, complete, inner, leaf, more, none, root_of, SameShape, subtree_in, subtree, IsAddressOf, LeadsToLeaf, IsEmbedding, Arities, down_from, Placement, IsPlaced, Placements, ArePlaced, lift_digits, IsApartFrom, part, digits_below}
+use Rattle.tree_defs.specs.Tree.{Address}
 use Rattle.embed_defs.proofs.Levels.{address-append, address-short, length-down_from}
 use Rattle.embed_defs.proofs.Addresses.{after-sum, one_prefix}
 use Rattle.embed_defs.proofs.Subtrees.{same_address}

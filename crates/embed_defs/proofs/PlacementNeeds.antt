@@ -1,14 +1,6 @@
 -- An embedding gives a placement, so no complete tree lower than the need has an embedding.
-use Rattle.std.proofs.Common.{◌≡◌, ◌≢◌, ℕ, suc, ◌+◌, ◌-◌, ◌<◌, ◌≤◌, [], ◌∷◌, ◌++◌, length, drop, Some, None, refl, sym, ap, ◌∙◌, subst, arith, length-append, append-nil}
-use Rattle.std.proofs.lemmas.List.{drop_at}
-use Rattle.tree_defs.specs.Tree.{Tree, leaf, inner, Trees, none, more, Address, SameShape, SameShapes, subtree, subtree_in, IsAddressOf, LeadsToLeaf, root_of}
-use Rattle.tree_defs.specs.Topology.{Topology, after, IsPrefixOf, complete, IsWithin}
-use Rattle.tree_defs.proofs.Shapes.{topology_of-same, same_shape}
-use Rattle.tree_defs.proofs.TopologyLaws.{leads_to, after-append, after-is, within_complete, deep_leaf}
-use Rattle.embed_defs.specs.Levels.{Arities, down_from}
-use Rattle.embed_defs.specs.Embedding.{IsEmbedding}
-use Rattle.embed_defs.specs.Need.{AreNeedsOf, IsNeed, HasHeight}
-use Rattle.embed_defs.specs.Placed.{Placement, Placements, IsApartFrom, IsPlaced, ArePlaced}
+use Rattle.embed_defs.proofs.Prelude.{[], ℕ, ◌≡◌, refl, ◌∷◌, ap, ◌∙◌, arith, suc, sym, length, ◌≤◌, Some, ◌++◌, ◌+◌, ◌-◌, None, ◌<◌, subst, ◌≢◌, append-nil, length-append, drop, drop_at, same_shape, topology_of-same, after-append, after-is, deep_leaf, leads_to, within_complete, after, Topology, IsWithin, IsPrefixOf, complete, inner, leaf, more, none, Tree, Trees, root_of, SameShape, SameShapes, subtree_in, subtree, IsAddressOf, LeadsToLeaf, IsEmbedding, Arities, down_from, AreNeedsOf, HasHeight, IsNeed, Placement, IsPlaced, Placements, ArePlaced, IsApartFrom}
+use Rattle.tree_defs.specs.Tree.{Address}
 use Rattle.embed_defs.proofs.Levels.{ArePositive, address-after, address-short, length-down_from}
 use Rattle.embed_defs.proofs.Addresses.{after-sum, none_unless}
 use Rattle.embed_defs.proofs.Subtrees.{subtree-root, subtree-then}

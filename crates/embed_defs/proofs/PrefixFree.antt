@@ -1,9 +1,7 @@
 -- Addresses of which none is a prefix of another, and those among them that begin with a given
 -- digit.
-use Rattle.std.proofs.Common.{◌≡◌, ◌≢◌, ℕ, ◌⊎◌, true, cond, eqb, List, [], ◌∷◌, None, refl, sym, subst, inl, inr, eq-eqb}
-use Rattle.std.proofs.lemmas.Bool.{cases_Bool, eqb-true}
+use Rattle.embed_defs.proofs.Prelude.{[], ℕ, ◌≡◌, refl, ◌∷◌, sym, List, None, subst, inl, inr, ◌≢◌, eqb, eq-eqb, true, ◌⊎◌, cond, cases_Bool, eqb-true, after}
 use Rattle.tree_defs.specs.Tree.{Address}
-use Rattle.tree_defs.specs.Topology.{after}
 
 abbrev pub IsApart : Address → List Address → Type 0
 IsApart e [] = Unit {0}

@@ -1,11 +1,7 @@
 -- The tree of a list in preorder has the topology's shape, and holds the images.
-use Rattle.std.proofs.Common.{◌≡◌, ℕ, zero, suc, ◌+◌, List, [], ◌∷◌, drop, get_or, Some, refl, ap, ◌∙◌, arith}
-use Rattle.std.specs.Prelude.{option_map, unwrap_or}
-use Rattle.std.proofs.lemmas.List.{get_or-drop}
+use Rattle.embed_defs.proofs.Prelude.{[], ℕ, ◌≡◌, refl, ◌∷◌, ap, ◌∙◌, arith, suc, List, Some, zero, ◌+◌, drop, get_or, get_or-drop, option_map, unwrap_or, Topology, inner, leaf, more, none, Trees, root_of, SameShape, SameShapes, subtree_in, subtree, nodes, image_map}
 use Rattle.std.proofs.lemmas.Grind.{get_or_after_one}
-use Rattle.tree_defs.specs.Tree.{leaf, inner, Trees, none, more, Address, SameShape, SameShapes, subtree, subtree_in, root_of, nodes}
-use Rattle.tree_defs.specs.Topology.{Topology}
-use Rattle.embed_defs.specs.Images.{image_map}
+use Rattle.tree_defs.specs.Tree.{Address}
 use Rattle.embed_defs.specs.Preorder.{number_below, image_in, tree_in, trees_in}
 use Rattle.embed_defs.specs.MapLaws.{TreesInPreorderHoldTheImages}
 

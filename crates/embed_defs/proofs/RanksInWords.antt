@@ -1,13 +1,7 @@
 -- The lifted rank at each depth is that of the deepest node at most that deep, and the picked ranks
 -- are those at the images' depths.
-use Rattle.std.proofs.Common.{◌≡◌, ℕ, zero, suc, ◌+◌, ◌-◌, ◌<◌, ◌≤◌, List, [], ◌∷◌, ◌++◌, length, take, drop, replicate, refl, ap, ◌∙◌, arith, length-append}
-use Rattle.std.specs.Prelude.{slice_index, option_map, unwrap_or}
-use Rattle.std.proofs.lemmas.List.{length-replicate}
-use Rattle.tree_defs.specs.Tree.{Tree, leaf, inner, Trees, none, more, Address, LeadsToLeaf, LeadsBelow, subtree_in, root_of}
-use Rattle.embed_defs.specs.Images.{image_map}
-use Rattle.embed_defs.specs.Lift.{lift_ranks, lift_ranks_below, picked_ranks, picked_ranks_below}
-use Rattle.embed_defs.specs.GoodMaps.{IsDeep, AreDeep}
-use Rattle.embed_defs.specs.LiftLaws.{IsDeepestAt, LiftedRanksAreOfTheDeepest, PickedRanksAreThoseAtTheImages}
+use Rattle.embed_defs.proofs.Prelude.{[], ℕ, ◌≡◌, refl, ◌∷◌, ap, ◌∙◌, arith, suc, length, List, ◌≤◌, zero, ◌++◌, ◌+◌, ◌-◌, ◌<◌, length-append, drop, replicate, take, length-replicate, option_map, unwrap_or, slice_index, inner, leaf, more, none, Tree, Trees, root_of, subtree_in, LeadsToLeaf, LeadsBelow, AreDeep, IsDeep, image_map, lift_ranks, lift_ranks_below, picked_ranks, picked_ranks_below, IsDeepestAt, LiftedRanksAreOfTheDeepest, PickedRanksAreThoseAtTheImages}
+use Rattle.tree_defs.specs.Tree.{Address}
 
 -- the image of the node at an address below child i
 abbrev image_in : Trees Address → ℕ → Address → Address

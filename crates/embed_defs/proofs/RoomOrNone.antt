@@ -1,14 +1,6 @@
 -- Either there is room for a topology's needs, or there isn't.
-use Rattle.std.proofs.Common.{◌⊎◌, inl, inr, ℕ, [], refl, arith}
-use Rattle.std.proofs.lemmas.Bool.{cases_lt}
-use Rattle.tree_defs.specs.Tree.{Tree, leaf, inner, Address}
-use Rattle.tree_defs.specs.Topology.{Topology, complete}
-use Rattle.embed_defs.specs.Levels.{Arities, down_from}
-use Rattle.embed_defs.specs.Embedding.{IsEmbedding, HasEmbedding}
-use Rattle.embed_defs.specs.Need.{AreNeedsOf, HasHeight}
-use Rattle.embed_defs.specs.Canonical.{canonical, IsCanonical}
-use Rattle.embed_defs.specs.Images.{image_map}
-use Rattle.embed_defs.specs.Laws.{AreWide, PlacementsAreThereOrNone}
+use Rattle.embed_defs.proofs.Prelude.{[], ℕ, refl, arith, inl, inr, ◌⊎◌, cases_lt, Topology, complete, inner, leaf, Tree, canonical, IsCanonical, IsEmbedding, HasEmbedding, image_map, AreWide, PlacementsAreThereOrNone, Arities, down_from, AreNeedsOf, HasHeight}
+use Rattle.tree_defs.specs.Tree.{Address}
 use Rattle.embed_defs.proofs.EnoughHeights.{wide-positive}
 use Rattle.embed_defs.proofs.Needs.{some_needs}
 use Rattle.embed_defs.proofs.Images.{canonical-embedding, has-embedding}

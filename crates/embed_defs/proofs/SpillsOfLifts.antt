@@ -1,11 +1,7 @@
 -- A push spills at the same number of nodes in families of the same queues.
-use Rattle.std.proofs.Common.{◌≡◌, ℕ, List, [], ◌∷◌, refl, drop}
-use Rattle.embed_defs.specs.Family.{Family, Address, below, SameQueues}
+use Rattle.embed_defs.proofs.Prelude.{[], ℕ, ◌≡◌, refl, ◌∷◌, List, drop, Family, below, SameQueues, image_map, lift_ranks, LiftOfIsTheLift, SpillsOfLifts, lift, placement_of}
+use Rattle.embed_defs.specs.Family.{Address}
 use Rattle.embed_defs.specs.Spills.{spills_along}
-use Rattle.embed_defs.specs.Images.{image_map}
-use Rattle.embed_defs.specs.Lift.{lift_ranks}
-use Rattle.embed_defs.specs.Lifting.{placement_of, lift}
-use Rattle.embed_defs.specs.LiftLaws.{LiftOfIsTheLift, SpillsOfLifts}
 use Rattle.embed_defs.proofs.ImageLifts.{is-lift, lift-is}
 
 spills_along-same : (a : Address) (ranks : List ℕ) (F G : Family) → SameQueues F G → spills_along a ranks F ≡ spills_along a ranks G

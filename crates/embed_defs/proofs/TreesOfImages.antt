@@ -1,8 +1,6 @@
 -- A map has exactly one tree of images.
-use Rattle.std.proofs.Common.{◌≡◌, suc, ℕ, [], ◌∷◌, Some, refl, sym, ap, ◌∙◌}
-use Rattle.tree_defs.specs.Tree.{Tree, leaf, inner, Trees, none, more, Address, SameShape, SameShapes, subtree_in, IsAddressOf}
-use Rattle.tree_defs.specs.Topology.{Topology}
-use Rattle.embed_defs.specs.Images.{image_map}
+use Rattle.embed_defs.proofs.Prelude.{[], ℕ, ◌≡◌, refl, ◌∷◌, ap, ◌∙◌, suc, sym, Some, Topology, inner, leaf, more, none, Tree, Trees, SameShape, SameShapes, subtree_in, IsAddressOf, image_map}
+use Rattle.tree_defs.specs.Tree.{Address}
 use Rattle.embed_defs.specs.MapLaws.{TreesOfImagesAreOne}
 
 -- the image at an address below some trees, the first of which is child 0

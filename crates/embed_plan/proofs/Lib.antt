@@ -1,3 +1,4 @@
+pub mod Prelude
 pub mod OnePlan
 pub mod PlanExists
 pub mod PreorderAddresses

@@ -1,10 +1,5 @@
 -- There is only one plan: one least height, one canonical placement, and either room or no room.
-use Rattle.std.proofs.Common.{◌≡◌, ℕ, Bool, List, length, ◌++◌, refl, ap, ◌∙◌}
-use Rattle.embed_defs.proofs.EmbeddingLaws.{topologies_have_one_need-holds, canonical_placements_are_one-holds}
-use Rattle.policy_defs.specs.Policy.{Policy}
-use Rattle.embed_defs.specs.Levels.{levels}
-use Rattle.tree_defs.specs.Topology.{topology_of}
-use Rattle.embed_plan.specs.Plan.{IsPlan, placed, no_room, least_line, map_lines}
+use Rattle.embed_plan.proofs.Prelude.{◌++◌, ◌∙◌, ◌≡◌, List, ap, ℕ, length, refl, Bool, topologies_have_one_need-holds, canonical_placements_are_one-holds, levels, Policy, topology_of, least_line, map_lines, no_room, placed, IsPlan}
 
 pub one_plan : (policy : Policy) (arities : List ℕ) (above : ℕ) (fits others : Bool) (text other : List ℕ)
     → IsPlan policy arities above fits text → IsPlan policy arities above others other → (fits ≡ others) × (text ≡ other)

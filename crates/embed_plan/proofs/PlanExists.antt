@@ -1,14 +1,8 @@
 -- A policy and a target have a plan.
-use Rattle.std.proofs.Common.{◌≡◌, ℕ, ◌-◌, true, false, List, length, ◌++◌, inl, inr, refl, sym, subst, ◌∙◌, arith}
-use Rattle.embed_defs.specs.Embedding.{HasEmbedding}
-use Rattle.embed_defs.specs.Images.{image_map}
+use Rattle.embed_plan.proofs.Prelude.{◌++◌, ◌∙◌, ◌≡◌, List, sym, ℕ, length, refl, arith, false, inl, inr, subst, true, ◌-◌, topologies_have_one_need-holds, HasEmbedding, image_map, levels, down_from, complete, topology_of, least_line, map_lines, no_room, placed}
 use Rattle.embed_defs.specs.Laws.{AreWide}
-use Rattle.embed_defs.proofs.EmbeddingLaws.{topologies_have_one_need-holds}
 use Rattle.embed_defs.proofs.RoomOrNone.{there_or_none}
-use Rattle.embed_defs.specs.Levels.{levels, down_from}
 use Rattle.embed_defs.proofs.LevelLaws.{heights_give-holds, heights_in_range-holds}
-use Rattle.tree_defs.specs.Topology.{topology_of, complete}
-use Rattle.embed_plan.specs.Plan.{placed, no_room, least_line, map_lines}
 use Rattle.embed_plan.specs.Laws.{PoliciesHaveAPlan}
 
 -- counted by height, all levels are the target

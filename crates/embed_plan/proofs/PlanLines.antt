@@ -1,10 +1,7 @@
 -- The line of a node.
-use Rattle.std.proofs.Common.{◌≡◌, ℕ, List, [], Option, None, Some, Bor, ap, sym, ◌∙◌}
+use Rattle.embed_plan.proofs.Prelude.{◌∙◌, ◌≡◌, List, ap, sym, ℕ, [], Bor, None, Option, Some, image_map, image_at, Policy, Node, name_at, node_at, Address, Tree}
 use Rattle.std.specs.Prelude.{IsSomeAnd, MatchOption, unwrap_or}
 use Rattle.std.specs.Option.{option_map_or}
-use Rattle.tree_defs.specs.Tree.{Tree, Address}
-use Rattle.embed_defs.specs.Images.{image_at, image_map}
-use Rattle.policy_defs.specs.Policy.{Policy, Node, node_at, name_at}
 
 named : (o : Option Node) (name : List ℕ) → IsSomeAnd o (λ n. name ≡ n.name) → name ≡ option_map_or (λ n. n.name) o []
 named None name h = absurd h

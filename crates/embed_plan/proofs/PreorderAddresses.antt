@@ -1,13 +1,9 @@
 -- The addresses in preorder, listed by number.
-use Rattle.std.proofs.Common.{◌≡◌, ℕ, zero, suc, ◌+◌, ◌-◌, ◌<◌, List, [], ◌∷◌, ◌++◌, length, map, take, get_or, refl, sym, ap, ◌∙◌, arith, inl, inr}
+use Rattle.embed_plan.proofs.Prelude.{◌++◌, ◌∙◌, ◌≡◌, List, ap, sym, ℕ, take, length, refl, [], arith, map, ◌∷◌, get_or, inl, inr, ◌-◌, suc, zero, ◌+◌, ◌<◌, concat, address_at, address_below, sibling_of, Address, Tree, Trees, inner, leaf, more, nodes, nodes_below, none, addresses, addresses_below}
 use Rattle.std.proofs.lemmas.List.{append-nil, length-append, length-map, map-append, take_more, get_or_append_left, get_or-append-add, get_or-map}
 use Rattle.std.proofs.lemmas.List.Folds.{concat-append}
 use Rattle.std.proofs.lemmas.Bool.{cases_lt}
-use Rattle.std.specs.List.{concat}
-use Rattle.tree_defs.specs.Tree.{Tree, leaf, inner, Trees, none, more, Address, nodes, nodes_below}
-use Rattle.policy_core.specs.Numbering.{sibling_of, address_at, address_below}
 use Rattle.policy_core.proofs.NumberedAddresses.{sibling-first, way-first, sibling-later, way-later}
-use Rattle.embed_plan.specs.Preorder.{addresses, addresses_below}
 
 mutual
   pub count : {Q : Type 0} (t : Tree Q) → length (addresses t) ≡ nodes t

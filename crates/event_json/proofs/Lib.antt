@@ -1,3 +1,4 @@
+pub mod Prelude
 pub mod NumberLists
 pub mod OneLine
 pub mod WholeRuns

@@ -1,7 +1,6 @@
 -- Numbers separated by commas, the first one first.
-use Rattle.std.proofs.Common.{◌≡◌, ℕ, ◌+◌, ◌-◌, ◌<◌, ◌≤◌, List, [], ◌∷◌, ◌++◌, length, get_or, take, drop, decimal, sym, ap, ◌∙◌, append_assoc, append-nil, arith, length-drop}
+use Rattle.event_json.proofs.Prelude.{[], ◌∙◌, ◌∷◌, ap, sym, ◌≡◌, List, arith, ℕ, ◌++◌, ◌+◌, decimal, drop, ◌<◌, ◌≤◌, append-nil, append_assoc, length, ◌-◌, get_or, length-drop, take, numbers_text}
 use Rattle.std.proofs.lemmas.List.{take_all, take_rest, drop_more, drop_all}
-use Rattle.event_json.specs.Objects.{numbers_text}
 
 -- the numbers after others
 abbrev pub later_numbers : List ℕ → List ℕ

@@ -1,17 +1,6 @@
 -- What one outcome adds to a JSON report.
-use Rattle.std.proofs.Common.{◌≡◌, ◌≤◌, ◌+◌, ◌-◌, ◌^◌, ℕ, Option, List, [], ◌∷◌, sym, ◌∙◌, subst, append-nil, arith}
+use Rattle.event_json.proofs.Prelude.{[], ◌∙◌, ◌∷◌, sym, subst, ◌≡◌, List, arith, ℕ, ◌+◌, Option, ◌^◌, ◌≤◌, append-nil, ◌-◌, Appended, Packet, Policy, text_of, Arrived, Departed, Dropped, Empty, Outcome, Address, capped, AreCapped, json_line, most_count, CountsOutcomes, AddsJson, Counts, JsonReport}
 use Rattle.std.specs.Prelude.{min}
-use Rattle.outside_core.specs.Written.{Appended}
-use Rattle.report_core.specs.Gathered.{text_of}
-use Rattle.tree_defs.specs.Tree.{Address}
-use Rattle.packet_defs.specs.declared.packet.Packet.{Packet}
-use Rattle.policy_defs.specs.Policy.{Policy}
-use Rattle.sched_defs.specs.Events.{Outcome, Arrived, Departed, Dropped, Empty}
-use Rattle.event_json.specs.Json.{most_count, capped, AreCapped, json_line}
-use Rattle.event_json.specs.JsonReports.{CountsOutcomes}
-use Rattle.event_json.specs.Recording.{AddsJson}
-use Rattle.event_json.specs.declared.counts.Counts.{Counts}
-use Rattle.event_json.specs.declared.json.JsonReport.{JsonReport}
 
 -- the text grew by the line of an outcome
 pub one_line : (w v : JsonReport) (a b : Option (List ℕ)) (policy : Policy) (event : ℕ) (o : Outcome) (line : List ℕ)

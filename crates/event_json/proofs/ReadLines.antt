@@ -1,16 +1,10 @@
 -- The values of a JSON line are read back from its bytes.
-use Rattle.std.proofs.Common.{◌≡◌, ◌<◌, ◌^◌, ◌+◌, ◌%◌, ◌==◌, ◌&&◌, ℕ, Bool, true, false, not, if◌then◌else◌, List, [], ◌∷◌, ◌++◌, map, drop, decimal, codes, refl, sym, ap, ◌∙◌, arith}
+use Rattle.event_json.proofs.Prelude.{[], ◌∙◌, ◌∷◌, ap, sym, ◌≡◌, List, arith, ℕ, ◌++◌, ◌+◌, decimal, drop, ◌<◌, ◌^◌, codes, refl, ◌%◌, Bool, false, if◌then◌else◌, map, not, true, ◌&&◌, ◌==◌, decimal_by_steps_wide, is_ascii_digit, line_of, ranks_text, Is64, numbers_text, after_colons, leading, number_at, past_colon, text_at, is_no_bracket, is_no_quote, slash_for_comma}
 use Rattle.std.proofs.lemmas.Bool.{eqb-true}
-use Rattle.std.proofs.lemmas.Fmt.{decimal_by_steps_wide}
 use Rattle.std.proofs.lemmas.List.{map-append}
 use Rattle.std.proofs.lemmas.List.Folds.{list_all-append}
 use Rattle.std.specs.List.{list_all, AllByRecursion}
-use Rattle.std.specs.Char.{is_ascii_digit}
 use Rattle.text_core.specs.Tokens.{is_word_byte}
-use Rattle.outside_core.specs.Report.{line_of, ranks_text}
-use Rattle.event_json.specs.Objects.{numbers_text}
-use Rattle.event_json.specs.ReadBack.{leading, past_colon, after_colons, number_at, is_no_quote, text_at, is_no_bracket, slash_for_comma}
-use Rattle.event_json.specs.Laws.{Is64}
 
 -- ---- tests of bytes
 and_left : (s t : Bool) → (s && t) ≡ true → s ≡ true

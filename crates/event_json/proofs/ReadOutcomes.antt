@@ -1,17 +1,5 @@
 -- The line of a report is read back from the JSON line of each outcome.
-use Rattle.std.proofs.Common.{◌≡◌, ◌<◌, ◌^◌, ◌+◌, ◌%◌, ℕ, Option, None, Some, List, [], ◌∷◌, ◌++◌, decimal, codes, refl, ap, ◌∙◌, arith, append_assoc}
-use Rattle.std.proofs.lemmas.Fmt.{decimal_by_steps_wide}
-use Rattle.std.specs.Char.{is_ascii_digit}
-use Rattle.outside_core.specs.Report.{line_of, ranks_text, start_words}
-use Rattle.packet_defs.specs.declared.packet.Packet.{Packet}
-use Rattle.policy_defs.specs.Policy.{Policy, name_at}
-use Rattle.tree_defs.specs.Tree.{Address}
-use Rattle.sched_defs.specs.declared.rate.LinkRate.{LinkRate}
-use Rattle.sched_defs.specs.Events.{Arrived, Departed, Dropped, Empty}
-use Rattle.event_json.specs.Objects.{numbers_text, times_members, arrive_line, depart_line, drop_line, empty_line}
-use Rattle.event_json.specs.Json.{times_of}
-use Rattle.event_json.specs.ReadBack.{leading, past_colon, after_colons, number_at, text_at, word_of, report_line_of, report_line_by}
-use Rattle.event_json.specs.Laws.{Is64, IsPlain, ShowsStart, JsonSaysTheReport}
+use Rattle.event_json.proofs.Prelude.{[], ◌∙◌, ◌∷◌, ap, ◌≡◌, List, arith, ℕ, ◌++◌, ◌+◌, Option, decimal, ◌<◌, ◌^◌, append_assoc, codes, refl, ◌%◌, None, Some, decimal_by_steps_wide, is_ascii_digit, line_of, ranks_text, start_words, Packet, Policy, name_at, Arrived, Departed, Dropped, Empty, LinkRate, Address, times_of, Is64, IsPlain, JsonSaysTheReport, ShowsStart, numbers_text, arrive_line, depart_line, drop_line, empty_line, times_members, after_colons, leading, number_at, past_colon, text_at, report_line_by, report_line_of, word_of}
 use Rattle.event_json.proofs.ReadLines.{leading_over, past_over, digits_pass, digits_of_64, no_colons, no_colons_in_ranks, ranks_read, packet_from, Reads, reads, same_line}
 
 -- ---- arrivals and drops

@@ -1,21 +1,11 @@
 -- The text of a run whose JSON report is begun and finished.
-use Rattle.std.proofs.Common.{◌≡◌, ℕ, Option, List, [], ◌++◌, ap, ◌∙◌, subst, arith}
-use Rattle.outside_core.specs.Written.{Appended, AppendedPrefix}
+use Rattle.event_json.proofs.Prelude.{[], ◌∙◌, ap, subst, ◌≡◌, List, arith, ℕ, ◌++◌, Option, Appended, AppendedPrefix, Policy, text_of, Outcome, dropped_in, empty_in, popped_in, pushed_in, LinkRate, capped, counts_in, json_end, json_from, json_text, CountsOutcomes, GrowsBy, RecordsNothing, AddsJson, CutsJson, Counts, JsonReport}
 use Rattle.outside_core.specs.Kept.{Begins}
 use Rattle.outside_core.proofs.WrittenLaws.{appended_in_turn}
 use Rattle.outside_core.specs.Text.{IsCut}
-use Rattle.report_core.specs.Gathered.{text_of}
 use Rattle.report_core.proofs.TextLaws.{IsCut-append, IsCut-longer}
 use Rattle.report_core.proofs.WholeTexts.{whole_text, cut_part}
-use Rattle.policy_defs.specs.Policy.{Policy}
-use Rattle.sched_defs.specs.declared.rate.LinkRate.{LinkRate}
 use Rattle.sched_defs.specs.declared.ending.Ending.{Ending}
-use Rattle.sched_defs.specs.Events.{Outcome, pushed_in, popped_in, dropped_in, empty_in}
-use Rattle.event_json.specs.Json.{capped, counts_in, json_from, json_end, json_text}
-use Rattle.event_json.specs.JsonReports.{GrowsBy, CountsOutcomes, RecordsNothing}
-use Rattle.event_json.specs.Recording.{AddsJson, CutsJson}
-use Rattle.event_json.specs.declared.counts.Counts.{Counts}
-use Rattle.event_json.specs.declared.json.JsonReport.{JsonReport}
 
 -- ---- counts
 same_counts : (c d : Counts) → c.arrived ≡ d.arrived → c.departed ≡ d.departed → c.dropped ≡ d.dropped → c.empty ≡ d.empty → c ≡ d

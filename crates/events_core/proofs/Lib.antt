@@ -1,3 +1,4 @@
+pub mod Prelude
 pub mod ScriptLaws
 pub mod ScriptAnswers
 pub mod UsualLaws

@@ -1,13 +1,7 @@
 -- A text that isn't too long can't lack both steps and a first error.
-use Rattle.std.proofs.Common.{◌≡◌, ℕ, ◌+◌, ◌≤◌, List, [], ◌∷◌, ◌++◌, length, inl, inr, sym, ◌∙◌, refl, subst, arith, append_assoc}
+use Rattle.events_core.proofs.Prelude.{sym, ◌∙◌, ◌≡◌, arith, refl, subst, ◌++◌, List, [], length, ℕ, ◌+◌, ◌∷◌, ◌≤◌, append_assoc, inl, inr, append-nil, statements_of, Carries, IsFirstFault, IsScript, Carry, most_bytes, most_count, over, counts_of, ScriptFault, TooMany, Step}
 use Rattle.std.proofs.lemmas.Bool.{cases_lt}
-use Rattle.std.proofs.lemmas.List.{append-nil}
-use Rattle.text_core.specs.Lines.{statements_of}
-use Rattle.events_core.specs.declared.step.Step.{Step}
-use Rattle.events_core.specs.declared.fault.ScriptFault.{ScriptFault}
-use Rattle.events_core.specs.declared.fault.ScriptFault.TheVariants.{Line, TooMany}
-use Rattle.events_core.specs.Steps.{counts_of}
-use Rattle.events_core.specs.Script.{most_bytes, most_count, Carries, Carry, over, IsScript, IsFirstFault}
+use Rattle.events_core.specs.declared.fault.ScriptFault.TheVariants.{Line}
 use Rattle.events_core.specs.Laws.{ScriptsHaveAnAnswer}
 use Rattle.events_core.proofs.ScriptLaws.{counts-append, Carry-push}
 

@@ -1,17 +1,11 @@
 -- A text is one script, or has one first error.
-use Rattle.std.proofs.Common.{◌≡◌, ℕ, suc, ◌+◌, ◌<◌, ◌≤◌, List, [], ◌∷◌, ◌++◌, length, drop, map, Some, Ok, Err, Result, ◌⊎◌, inl, inr, sym, refl, ap, ◌∙◌, subst, arith, append_assoc, length-append, length-drop}
+use Rattle.events_core.proofs.Prelude.{sym, ◌∙◌, ◌≡◌, arith, refl, subst, ◌++◌, List, [], ap, length, ℕ, ◌+◌, ◌∷◌, ◌≤◌, Some, append_assoc, drop, inl, inr, ◌⊎◌, Err, Ok, Result, length-append, length-drop, map, suc, ◌<◌, append-nil, length-map, map-append, statements_of, Follow, line_text, Carries, IsFirstFault, IsScript, Carry, most_bytes, most_count, over, IsAtFault, next, counts_of, line_steps, ScriptFault, Step}
 use Rattle.std.specs.Prelude.{MatchResult}
-use Rattle.std.proofs.lemmas.List.{append-nil, map-append, length-map}
 use Rattle.text_core.specs.declared.line.Line.{Line}
-use Rattle.text_core.specs.Lines.{line_text, statements_of, Follow}
 use Rattle.text_core.proofs.LineLaws.{Follow-Hold, Hold-whole}
 use Rattle.text_core.proofs.LineLemmas.{Follow-join}
 use Rattle.text_core.proofs.SaysLaws.{Says-one}
-use Rattle.events_core.specs.declared.step.Step.{Step}
-use Rattle.events_core.specs.declared.fault.ScriptFault.{ScriptFault}
 use Rattle.events_core.specs.declared.fault.ScriptFault.TheVariants as fault
-use Rattle.events_core.specs.Steps.{line_steps, counts_of}
-use Rattle.events_core.specs.Script.{most_bytes, most_count, Carries, Carry, over, next, IsScript, IsAtFault, IsFirstFault}
 
 -- a line requests only one list of steps
 pub Carries-one : (l : List ℕ) (s t : List Step) → Carries l s → Carries l t → s ≡ t

@@ -1,24 +1,18 @@
 -- The steps of lines in the usual form.
-use Rattle.std.proofs.Common.{◌≡◌, ℕ, ◌-◌, ◌≤◌, Bool, true, false, List, [], ◌∷◌, ◌++◌, length, get_or, take, drop, Option, Some, None, option_map, refl, sym, ap, ◌∙◌, subst, arith, bytes_eq}
+use Rattle.events_core.proofs.Prelude.{sym, ◌∙◌, ◌≡◌, arith, refl, subst, ◌++◌, List, [], ap, length, ℕ, ◌∷◌, ◌≤◌, Some, drop, get_or, Bool, None, Option, bytes_eq, false, option_map, take, true, ◌-◌, append-nil, take_all, is_clean, is_clean_text, Carries, alone, counted_step, word_step, Step, Arrive, Depart, Drain, Rest}
 use Rattle.std.specs.Prelude.{nat_le, IfSome, if◌then◌else◌, codes}
 use Rattle.std.specs.List.{prefix_len}
 use Rattle.std.specs.Str.{all_ascii_digits}
 use Rattle.std.specs.Str.Parse.{digits_value}
 use Rattle.std.proofs.lemmas.Bool.Decides.{nat_tests}
-use Rattle.std.proofs.lemmas.List.{append-nil, take_all}
 use Rattle.std.proofs.lemmas.Slice.Eq.{bytes_eq-Decides}
 use Rattle.text_core.specs.declared.token.TokenKind.TheVariants as k
 use Rattle.text_core.specs.Decimals.{max, is_numeral, number_of}
 use Rattle.text_core.specs.Glyphs.{text, figure}
-use Rattle.text_core.specs.Lines.{is_clean, is_clean_text}
 use Rattle.text_core.specs.Says.{Says}
 use Rattle.text_core.specs.Tokens.{is_digit, is_word_byte, begins_word}
 use Rattle.text_core.proofs.DecimalLemmas.{digit_range}
 use Rattle.text_core.proofs.TextLaws.{both_left, both_right, digits_token, says_token, says_blank, says_word}
-use Rattle.events_core.specs.declared.step.Step.{Step}
-use Rattle.events_core.specs.declared.step.Step.TheVariants.{Arrive, Depart, Rest, Drain}
-use Rattle.events_core.specs.Steps.{word_step, counted_step, alone}
-use Rattle.events_core.specs.Script.{Carries}
 
 -- ---- a word alone
 

@@ -1,10 +1,5 @@
 -- The items of an array at the addresses below a node.
-use Rattle.std.proofs.Common.{◌≡◌, ℕ, ◌+◌, ◌*◌, ◌<◌, ◌≤◌, ltb, List, [], ◌∷◌, get_or, refl, arith, inl, inr}
-use Rattle.std.proofs.lemmas.Nat.{mul-add-lt}
-use Rattle.std.proofs.lemmas.Bool.{cases_Bool, lt-ltb, le-ltb}
-use Rattle.std.proofs.Math.Nat.{mul-le-mul_left}
-use Rattle.embed_defs.specs.Family.{Address}
-use Rattle.fabric_core.specs.Array.{nodes, read}
+use Rattle.fabric_core.proofs.Prelude.{ℕ, arith, ◌≡◌, List, ◌+◌, [], get_or, ◌<◌, ◌∷◌, ◌*◌, ◌≤◌, refl, inl, inr, ltb, mul-le-mul_left, cases_Bool, le-ltb, lt-ltb, mul-add-lt, Address, nodes, read}
 
 pub read-below : {A : Type 0} (ar : List ℕ) (items : List A) (none : A) (d begin width place x : ℕ) (b : Address) → x < d
     → read (d ∷ ar) items none begin width place (x ∷ b) ≡ read ar items none (begin + width) (width * d) (place * d + x) b

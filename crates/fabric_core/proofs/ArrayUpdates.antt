@@ -1,11 +1,5 @@
 -- Updates of one queue of the array.
-use Rattle.std.proofs.Common.{◌≡◌, ℕ, zero, suc, ◌<◌, List, map, [], ◌∷◌, length, get_or, set, sym, ap, ◌∙◌}
-use Rattle.std.proofs.lemmas.List.{map-set, get_or-map, length-map}
-use Rattle.std.proofs.Math.Seq.{map-set_same}
-use Rattle.std.specs.List.{AllByRecursion}
-use Rattle.tree_defs.specs.Queue.{Queue, put}
-use Rattle.fabric_core.specs.declared.node.NodeQueue.{Ghosts}
-use Rattle.fabric_core.specs.Array.{put_at}
+use Rattle.fabric_core.proofs.Prelude.{ℕ, ◌≡◌, List, [], length, sym, ap, get_or, ◌∙◌, ◌<◌, ◌∷◌, map, set, suc, zero, map-set_same, length-map, get_or-map, map-set, AllByRecursion, Queue, put, put_at, Ghosts}
 
 -- ---- bounds of numbers
 pub bound-at : (P : ℕ → Type 0) (ns : List ℕ) (n : ℕ) → AllByRecursion P ns → P 0 → P (get_or ns n 0)

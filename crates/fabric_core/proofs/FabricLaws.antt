@@ -1,14 +1,6 @@
 -- A fabric's invariants hold after each call. They are about its queues in one array and the number
 -- of pushes of each.
-use Rattle.std.proofs.Common.{◌≡◌, ℕ, zero, suc, ◌+◌, ◌<◌, ◌≤◌, ◌^◌, List, [], ◌∷◌, length, map, get_or, refl, sym, ap, subst, ◌∙◌, arith, Some}
-use Rattle.std.specs.List.{AllByRecursion}
-use Rattle.std.proofs.lemmas.List.{get_or-map, length-map}
-use mathlib.Core.Path.{fun_ext}
-use Rattle.tree_defs.specs.Queue.{Queue}
-use Rattle.tree_defs.specs.SourceTree.{times}
-use Rattle.embed_defs.specs.Family.{Family, IsEmpty, IsLeafAddress, SameQueues, Pops, below, push_along}
-use Rattle.fabric_core.specs.Array.{nodes, queues_at, array_push, array_pop}
-use Rattle.fabric_core.specs.Flow.{NamesBelow, IsFlow, IsSound}
+use Rattle.fabric_core.proofs.Prelude.{ℕ, arith, ◌≡◌, List, ◌+◌, [], length, sym, ap, get_or, ◌∙◌, subst, ◌<◌, ◌∷◌, ◌≤◌, map, refl, suc, Some, zero, ◌^◌, length-map, get_or-map, AllByRecursion, fun_ext, IsLeafAddress, Family, below, push_along, Pops, IsEmpty, SameQueues, Queue, times, nodes, queues_at, array_pop, array_push, IsFlow, NamesBelow, IsSound}
 use Rattle.fabric_core.proofs.ArrayReads.{read-none, read-root, some_nodes}
 use Rattle.fabric_core.proofs.PushLaws.{array_push-along, length-array_push}
 use Rattle.fabric_core.proofs.PopLaws.{array_pop-along, length-array_pop}

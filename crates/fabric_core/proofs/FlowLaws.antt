@@ -1,16 +1,7 @@
 -- Pushes and pops of a family keep its flow, and a pop finds an item below each entry.
-use Rattle.std.proofs.Common.{◌≡◌, ◌≢◌, ℕ, zero, suc, ◌+◌, ◌<◌, eqb, List, [], ◌∷◌, length, drop, Some, refl, sym, ap, subst, ◌∙◌, arith, inl, inr}
-use Rattle.std.specs.Prelude.{slice_index, option_map}
-use Rattle.std.proofs.lemmas.Bool.{cases_Bool, cases_lt, eqb-true, eqb-false, eq-eqb, ne_eqb}
-use mathlib.Core.Path.{fun_ext}
-use Rattle.tree_defs.specs.Queue.{Queue, Taking, put, take_from, take_least}
+use Rattle.fabric_core.proofs.Prelude.{ℕ, arith, ◌≡◌, List, ◌+◌, [], length, sym, ap, ◌∙◌, subst, ◌<◌, ◌∷◌, refl, drop, inl, inr, suc, Some, eqb, zero, ◌≢◌, cases_Bool, eqb-false, eqb-true, cases_lt, eq-eqb, ne_eqb, option_map, slice_index, fun_ext, Address, IsLeafAddress, Family, below, push_along, pop_along, popped_digit, popped_last, with_branch, option_bind-some, option_map-some, Queue, put, Taking, take_least, take_from, times, Popping, IsFlow, NamesBelow}
 use Rattle.tree_defs.proofs.TakeLeast.{take_from-front, take_from-behind, length-put, length-rest}
-use Rattle.tree_defs.specs.Tree.{Popping}
-use Rattle.tree_defs.specs.SourceTree.{times}
-use Rattle.tree_defs.proofs.Options.{option_map-some, option_bind-some}
 use Rattle.tree_defs.proofs.WellFormedLaws.{times-put_same, times-put_other, times-taken_same, times-taken_other}
-use Rattle.embed_defs.specs.Family.{Address, Family, below, push_along, pop_along, popped_last, popped_digit, with_branch, IsLeafAddress}
-use Rattle.fabric_core.specs.Flow.{NamesBelow, IsFlow}
 use Rattle.fabric_core.proofs.PushLaws.{push_along-same, push_along-other}
 
 -- ---- queues

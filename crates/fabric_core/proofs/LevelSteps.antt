@@ -1,12 +1,5 @@
 -- The loop that makes the queues, level by level.
-use Rattle.std.proofs.Common.{◌≡◌, ℕ, ◌+◌, ◌*◌, ◌<◌, ◌≤◌, List, [], ◌∷◌, ◌++◌, length, map, get_or, drop, sym, ap, subst, ◌∙◌, arith}
-use Rattle.std.proofs.lemmas.List.{drop_more, drop_all, map-append, length-map, get_or_append_left}
-use Rattle.std.proofs.Math.Seq.{get_or-append_seam}
-use Rattle.std.specs.List.{AllByRecursion}
-use mathlib.Core.Path.{fun_ext}
-use Rattle.embed_defs.specs.Family.{Address}
-use Rattle.fabric_core.specs.Array.{flows_at}
-use Rattle.fabric_core.specs.Flow.{HasFlows}
+use Rattle.fabric_core.proofs.Prelude.{ℕ, arith, ◌≡◌, List, ◌+◌, [], length, sym, ap, get_or, ◌∙◌, subst, ◌<◌, ◌∷◌, ◌*◌, ◌≤◌, map, drop, ◌++◌, get_or-append_seam, drop_more, drop_all, length-map, get_or_append_left, map-append, AllByRecursion, fun_ext, Address, flows_at, HasFlows}
 use Rattle.fabric_core.proofs.ArrayReads.{read-below, child_place}
 
 -- ---- one queue more

@@ -1,9 +1,5 @@
 -- How a walk from the root to a leaf goes down the levels.
-use Rattle.std.proofs.Common.{◌≡◌, ℕ, zero, suc, ◌+◌, ◌*◌, ◌<◌, ◌≤◌, List, [], ◌∷◌, length, get_or, drop, refl, sym, ap, subst, ◌∙◌, arith}
-use Rattle.std.proofs.lemmas.List.{drop_more}
-use Rattle.std.proofs.Math.Nat.{mul-le-mul_left}
-use Rattle.embed_defs.specs.Family.{IsLeafAddress}
-use Rattle.fabric_core.specs.Array.{nodes}
+use Rattle.fabric_core.proofs.Prelude.{ℕ, arith, ◌≡◌, List, ◌+◌, [], length, sym, ap, get_or, ◌∙◌, subst, ◌<◌, ◌∷◌, ◌*◌, ◌≤◌, refl, drop, suc, zero, mul-le-mul_left, drop_more, IsLeafAddress, nodes}
 use Rattle.fabric_core.proofs.ArrayReads.{child_place, next_nodes, place_within, some_nodes}
 
 -- the node that the walk has reached, in an array of `count` nodes

@@ -1,3 +1,4 @@
+pub mod Prelude
 pub mod ArrayReads
 pub mod ArrayUpdates
 pub mod FabricLaws

@@ -1,7 +1,5 @@
 -- The nodes of a target, counted from the root down.
-use Rattle.std.proofs.Common.{◌≡◌, ℕ, ◌+◌, ◌*◌, ◌<◌, List, ◌∷◌, length, drop, get_or, subst, arith}
-use Rattle.std.proofs.lemmas.List.{drop_more}
-use Rattle.fabric_core.specs.Array.{nodes}
+use Rattle.fabric_core.proofs.Prelude.{ℕ, arith, ◌≡◌, List, ◌+◌, length, get_or, subst, ◌<◌, ◌∷◌, ◌*◌, drop, drop_more, nodes}
 
 pub next_count : (ds : List ℕ) (i begin width : ℕ) → i < length ds → begin + width * nodes (drop i ds) ≡ nodes ds → (begin + width) + (width * get_or ds i 0) * nodes (drop (i + 1) ds) ≡ nodes ds
 next_count ds i begin width l e =

@@ -1,15 +1,5 @@
 -- A pop in the array is a pop of the family of its queues.
-use Rattle.std.proofs.Common.{◌≡◌, ◌≢◌, ℕ, suc, ◌+◌, ◌*◌, ◌<◌, ◌≤◌, eqb, List, [], ◌∷◌, length, get_or, set, Option, Some, refl, sym, ap, subst, ◌∙◌, arith, inl, inr, length-set, get_or-set_same, get_or-set_other}
-use Rattle.std.specs.Prelude.{option_map}
-use Rattle.std.proofs.lemmas.Nat.{same_from_place}
-use Rattle.std.proofs.lemmas.Bool.{cases_Bool, cases_lt, eqb-true, eqb-false}
-use mathlib.Core.Path.{fun_ext}
-use Rattle.tree_defs.specs.Queue.{Queue, Taking, take_least}
-use Rattle.tree_defs.specs.Tree.{Popping, option_bind}
-use Rattle.tree_defs.proofs.Options.{option_map-some, option_bind-some}
-use Rattle.embed_defs.specs.Family.{Address, Family, Pops, below, pop_along, popped_last, popped_digit, with_root, with_branch}
-use Rattle.fabric_core.specs.Array.{nodes, queues_at, of_last, of_digit, array_pop}
-use Rattle.fabric_core.specs.Flow.{IsFlow}
+use Rattle.fabric_core.proofs.Prelude.{ℕ, arith, ◌≡◌, List, ◌+◌, [], length, sym, ap, get_or, ◌∙◌, subst, ◌<◌, ◌∷◌, ◌*◌, ◌≤◌, refl, set, inl, inr, suc, Some, eqb, get_or-set_other, get_or-set_same, length-set, ◌≢◌, Option, cases_Bool, eqb-false, eqb-true, cases_lt, same_from_place, option_map, fun_ext, Address, Family, below, Pops, pop_along, popped_digit, popped_last, with_branch, with_root, option_bind-some, option_map-some, Queue, Taking, take_least, Popping, option_bind, nodes, queues_at, array_pop, of_digit, of_last, IsFlow}
 use Rattle.fabric_core.proofs.ArrayReads.{read-below, read-outside, read-same, child_place, next_nodes, place_within}
 use Rattle.fabric_core.proofs.FlowLaws.{names-taken, branch-same, branch-other}
 

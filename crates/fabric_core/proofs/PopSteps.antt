@@ -1,14 +1,5 @@
 -- The loop of a pop.
-use Rattle.std.proofs.Common.{◌≡◌, ◌≢◌, ℕ, ◌+◌, ◌*◌, ◌<◌, List, [], ◌∷◌, ◌++◌, length, map, get_or, set, take, drop, Option, Some, None, refl, sym, ap, subst, ◌∙◌, arith, length-set}
-use Rattle.std.specs.Prelude.{option_map}
-use Rattle.std.proofs.lemmas.List.{drop_more, drop_all, take_all, take_more_set, append_assoc, append-nil}
-use Rattle.std.proofs.Math.Seq.{map-set_same}
-use Rattle.tree_defs.specs.Queue.{Queue, Taking, take_least}
-use Rattle.tree_defs.specs.Tree.{Popping, option_bind}
-use Rattle.fabric_core.specs.declared.node.NodeQueue.{Ghosts}
-use Rattle.fabric_core.specs.Array.{nodes, queues_at, of_last, of_digit, array_pop}
-use Rattle.fabric_core.specs.Flow.{IsFlow}
-use Rattle.embed_defs.specs.Family.{Family}
+use Rattle.fabric_core.proofs.Prelude.{ℕ, arith, ◌≡◌, List, ◌+◌, [], length, sym, ap, get_or, ◌∙◌, subst, ◌<◌, ◌∷◌, ◌*◌, map, refl, drop, set, Some, length-set, ◌≢◌, ◌++◌, Option, None, take, map-set_same, drop_more, drop_all, append-nil, append_assoc, take_all, take_more_set, option_map, Family, Queue, Taking, take_least, Popping, option_bind, nodes, queues_at, array_pop, of_digit, of_last, IsFlow, Ghosts}
 use Rattle.fabric_core.proofs.ArrayReads.{read-root}
 use Rattle.fabric_core.proofs.FlowLaws.{names-taken, child-waits}
 use Rattle.fabric_core.proofs.PopLaws.{queues-child, flow-child}

@@ -1,13 +1,6 @@
 -- A push in the array is a push of the family of its queues, and takes a free slot at each node on
 -- its path.
-use Rattle.std.proofs.Common.{◌≡◌, ◌≢◌, ℕ, zero, suc, ◌+◌, ◌*◌, ◌-◌, ◌<◌, ◌≤◌, eqb, List, [], ◌∷◌, length, get_or, set, drop, refl, sym, ap, subst, ◌∙◌, arith, inl, inr, length-set, get_or-set_same, get_or-set_other}
-use Rattle.std.specs.Prelude.{slice_index, nat_eq, if◌then◌else◌}
-use Rattle.std.proofs.lemmas.Nat.{same_from_place}
-use Rattle.std.proofs.lemmas.Bool.{cases_Bool, cases_lt, eqb-true, eqb-false, eq-eqb, ne_eqb}
-use mathlib.Core.Path.{fun_ext}
-use Rattle.tree_defs.specs.Queue.{Queue, put}
-use Rattle.embed_defs.specs.Family.{Address, Family, below, push_along, less_room_along, IsLeafAddress}
-use Rattle.fabric_core.specs.Array.{nodes, read, queues_at, room_at, array_push}
+use Rattle.fabric_core.proofs.Prelude.{ℕ, arith, ◌≡◌, List, ◌+◌, [], length, sym, ap, get_or, ◌∙◌, subst, ◌<◌, ◌∷◌, ◌*◌, ◌≤◌, refl, drop, set, inl, inr, suc, eqb, get_or-set_other, zero, get_or-set_same, length-set, ◌≢◌, ◌-◌, cases_Bool, eqb-false, eqb-true, cases_lt, eq-eqb, ne_eqb, same_from_place, slice_index, if◌then◌else◌, nat_eq, fun_ext, Address, IsLeafAddress, Family, below, push_along, less_room_along, Queue, put, nodes, queues_at, room_at, array_push, read}
 use Rattle.fabric_core.proofs.ArrayReads.{read-below, read-outside, read-same, child_place, next_nodes, place_within}
 
 pub push_along-same : (x : ℕ) (a : Address) (ranks : List ℕ) (item : ℕ) (F : Family) (b : Address) → push_along (x ∷ a) ranks item F (x ∷ b) ≡ push_along a (drop 1 ranks) item (below F x) b

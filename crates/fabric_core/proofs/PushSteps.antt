@@ -1,12 +1,5 @@
 -- The loop of a push.
-use Rattle.std.proofs.Common.{◌≡◌, ℕ, ◌+◌, ◌*◌, ◌^◌, ◌<◌, ◌≤◌, List, [], ◌∷◌, length, map, get_or, set, drop, refl, sym, ap, subst, ◌∙◌, arith, length-set, get_or-set_other}
-use Rattle.std.proofs.lemmas.List.{drop_more, drop_all, get_or-drop}
-use Rattle.std.specs.List.{AllByRecursion}
-use mathlib.Core.Path.{fun_ext}
-use Rattle.tree_defs.specs.Queue.{Queue, put}
-use Rattle.fabric_core.specs.declared.node.NodeQueue.{Ghosts}
-use Rattle.embed_defs.specs.Family.{Address, IsLeafAddress, HasRoomAlong}
-use Rattle.fabric_core.specs.Array.{nodes, room_at, put_at, array_push}
+use Rattle.fabric_core.proofs.Prelude.{ℕ, arith, ◌≡◌, List, ◌+◌, [], length, sym, ap, get_or, ◌∙◌, subst, ◌<◌, ◌∷◌, ◌*◌, ◌≤◌, map, refl, drop, set, get_or-set_other, length-set, ◌^◌, drop_more, drop_all, get_or-drop, AllByRecursion, fun_ext, Address, IsLeafAddress, HasRoomAlong, Queue, put, nodes, room_at, array_push, put_at, Ghosts}
 use Rattle.fabric_core.proofs.ArrayReads.{read-below, read-same}
 use Rattle.fabric_core.proofs.LevelWalks.{IsAt, at_index, at_child, placed_as, leaf_length, digit_below}
 use Rattle.fabric_core.proofs.ArrayUpdates.{entries-put, spare-at, pushes-at, pushes-set, spare-set, bound-at, bound-set, bound-more}

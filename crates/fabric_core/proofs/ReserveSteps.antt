@@ -1,11 +1,5 @@
 -- The loop that makes room.
-use Rattle.std.proofs.Common.{◌≡◌, ℕ, ◌+◌, ◌*◌, ◌<◌, ◌≤◌, eqb, List, [], ◌∷◌, length, map, get_or, set, drop, sym, subst, arith, inl, inr, get_or-set_same, get_or-set_other}
-use Rattle.std.proofs.lemmas.List.{drop_more, drop_all}
-use Rattle.std.proofs.lemmas.Bool.{cases_Bool, eqb-true, eqb-false}
-use mathlib.Core.Path.{fun_ext}
-use Rattle.fabric_core.specs.declared.node.NodeQueue.{Ghosts}
-use Rattle.embed_defs.specs.Family.{Address, IsLeafAddress, HasRoomAlong}
-use Rattle.fabric_core.specs.Array.{room_at}
+use Rattle.fabric_core.proofs.Prelude.{ℕ, arith, ◌≡◌, List, ◌+◌, [], length, sym, get_or, subst, ◌<◌, ◌∷◌, ◌*◌, ◌≤◌, map, drop, set, inl, inr, eqb, get_or-set_other, get_or-set_same, cases_Bool, eqb-false, eqb-true, drop_more, drop_all, fun_ext, Address, IsLeafAddress, HasRoomAlong, room_at, Ghosts}
 use Rattle.fabric_core.proofs.ArrayReads.{read-below}
 use Rattle.fabric_core.proofs.LevelWalks.{leaf_length, digit_below}
 use Rattle.fabric_core.proofs.ArrayUpdates.{spare-at, spare-set, length-spare}

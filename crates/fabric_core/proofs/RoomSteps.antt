@@ -1,10 +1,5 @@
 -- The effect of a push and a pop on the free slots.
-use Rattle.std.proofs.Common.{◌≡◌, ℕ, ◌+◌, ◌*◌, ◌-◌, ◌<◌, ◌≤◌, ltb, eqb, List, [], ◌∷◌, length, map, get_or, set, drop, refl, sym, ap, subst, ◌∙◌, arith, inl, inr, get_or-set_same, get_or-set_other}
-use Rattle.std.proofs.lemmas.Bool.{cases_Bool, eqb-true, eqb-false}
-use Rattle.std.proofs.lemmas.List.{drop_more, drop_all}
-use Rattle.embed_defs.specs.Family.{Address, IsLeafAddress}
-use Rattle.fabric_core.specs.declared.node.NodeQueue.{Ghosts}
-use Rattle.fabric_core.specs.Array.{nodes, room_at, ArrayKeepsRoom, ArrayTakesRoom}
+use Rattle.fabric_core.proofs.Prelude.{ℕ, arith, ◌≡◌, List, ◌+◌, [], length, sym, ap, get_or, ◌∙◌, subst, ◌<◌, ◌∷◌, ◌*◌, ◌≤◌, map, refl, drop, set, inl, inr, eqb, get_or-set_other, get_or-set_same, ltb, ◌-◌, cases_Bool, eqb-false, eqb-true, drop_more, drop_all, Address, IsLeafAddress, nodes, room_at, ArrayTakesRoom, ArrayKeepsRoom, Ghosts}
 use Rattle.fabric_core.proofs.ArrayUpdates.{spare-at, spare-set, length-spare}
 use Rattle.fabric_core.proofs.LevelWalks.{IsAt, placed_as, at_index, leaf_length}
 use Rattle.fabric_core.proofs.PushLaws.{array_take, array_take-along}

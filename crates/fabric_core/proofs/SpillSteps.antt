@@ -1,15 +1,7 @@
 -- The loop of a push counts the nodes at which it spills.
-use Rattle.std.proofs.Common.{◌≡◌, ℕ, ◌+◌, ◌*◌, ◌<◌, ◌≤◌, Bool, true, false, List, [], ◌∷◌, length, map, get_or, set, drop, refl, sym, ap, subst, ◌∙◌, arith}
-use Rattle.std.proofs.lemmas.List.{drop_more, drop_all, get_or-drop, get_or-map, map-set}
-use Rattle.std.proofs.Math.Seq.{map-set_same}
+use Rattle.fabric_core.proofs.Prelude.{ℕ, arith, ◌≡◌, List, ◌+◌, [], length, sym, ap, get_or, ◌∙◌, subst, ◌<◌, ◌∷◌, ◌*◌, ◌≤◌, map, refl, drop, set, true, Bool, false, map-set_same, drop_more, drop_all, get_or-map, get_or-drop, map-set, fun_ext, Address, IsLeafAddress, Family, Queue, queues_at, flows_at, IsFlow, NamesBelow, HasFlows, Ghosts}
 use Rattle.std.specs.Int.{from_bool}
-use mathlib.Core.Path.{fun_ext}
-use Rattle.tree_defs.specs.Queue.{Queue}
-use Rattle.embed_defs.specs.Family.{Address, Family, IsLeafAddress}
 use Rattle.embed_defs.specs.Spills.{spills_for, spills_at_leaf, spills_along, counted}
-use Rattle.fabric_core.specs.declared.node.NodeQueue.{Ghosts}
-use Rattle.fabric_core.specs.Array.{queues_at, flows_at}
-use Rattle.fabric_core.specs.Flow.{NamesBelow, IsFlow, HasFlows}
 use Rattle.fabric_core.proofs.ArrayReads.{read-below}
 use Rattle.fabric_core.proofs.PopLaws.{queues-child, flow-child}
 use Rattle.fabric_core.proofs.LevelWalks.{IsAt, placed_as, at_index, leaf_length, digit_below}

@@ -1,8 +1,5 @@
 -- The records of outcomes in a row are those of a prefix, followed by those of the others.
-use Rattle.std.proofs.Common.{◌≡◌, ℕ, List, [], ◌∷◌, ◌++◌, refl, sym, ap, ◌∙◌, append_assoc}
-use Rattle.sched_defs.specs.Events.{Outcome}
-use Rattle.sched_defs.specs.Packets.{Captured}
-use Rattle.forward_defs.specs.Keeping.{Keeping, keeps, record_of, kept_behind, records_of}
+use Rattle.forward_defs.proofs.Prelude.{List, [], refl, ℕ, ◌∷◌, ◌≡◌, ap, ◌++◌, sym, ◌∙◌, append_assoc, Outcome, Captured, Keeping, keeps, kept_behind, records_of, record_of}
 
 pub kept_behind-append : (captured : Captured) (k : Keeping) (os ps : List Outcome) → kept_behind captured k (os ++ ps) ≡ kept_behind captured (kept_behind captured k os) ps
 kept_behind-append captured k [] ps = refl

@@ -1,24 +1,11 @@
 -- The captured bytes kept are those of the queued packets, so the records written one by one are
 -- those of all departures.
-use Rattle.std.proofs.Common.{◌≡◌, ◌==◌, ◌/◌, ◌%◌, ◌^◌, ℕ, Bool, true, false, nat_lt, if◌then◌else◌, Option, None, Some, List, [], ◌∷◌, ◌++◌, map, refl, sym, ap, ◌∙◌, subst, append-nil}
+use Rattle.forward_defs.proofs.Prelude.{List, [], refl, ℕ, ◌∷◌, ◌≡◌, ap, ◌++◌, Bool, Option, false, if◌then◌else◌, sym, true, None, Some, subst, ◌∙◌, map, nat_lt, ◌%◌, ◌/◌, ◌==◌, ◌^◌, append-nil, Packet, IsAccepted, Policy, sound_arrived, sound_departed, sound_start, popped_is_held, Event, Arrive, Depart, outcomes, Outcome, Arrived, CanMake, Departed, Dropped, departure, outcome, Captured, IsSound, IsAtItsLeaf, SourceState, Leaver, arrival_ranks, arrived, class_of, departed, is_full, leaver, start, dropped, leaving, left_from, left_with, pushed, SourceTree, pop, Address, Popping, option_bind, sent_record, Keeping, keeps, records_of, RecordsAreForwarded, keeps_nothing, record_for, Sending, late, sendings, sending_at}
 use Rattle.std.specs.Prelude.{option_map}
 use Rattle.std.proofs.lemmas.Bool.{eqb-true}
 use Rattle.std.proofs.lemmas.List.{map-append}
-use Rattle.tree_defs.specs.Tree.{Address, Popping, option_bind}
-use Rattle.tree_defs.specs.SourceTree.{SourceTree, pop}
 use Rattle.pcap_core.specs.Bytes.{header_bytes, record_bytes, records_bytes}
 use Rattle.pcap_core.proofs.BytesLaws.{records_follow}
-use Rattle.packet_defs.specs.declared.packet.Packet.{Packet}
-use Rattle.policy_defs.specs.Policy.{Policy}
-use Rattle.policy_defs.specs.Accepted.{IsAccepted}
-use Rattle.sched_defs.specs.SourceState.{SourceState, Leaver, start, class_of, arrival_ranks, is_full, arrived, departed, dropped, pushed, left_from, left_with, leaving, leaver}
-use Rattle.sched_defs.specs.Sound.{IsSound, IsAtItsLeaf}
-use Rattle.sched_defs.specs.Events.{Event, Arrive, Depart, Outcome, Arrived, Departed, Dropped, departure, outcome, outcomes, CanMake}
-use Rattle.sched_defs.specs.Packets.{Captured}
-use Rattle.sched_defs.proofs.Soundness.{sound_start, sound_arrived, sound_departed, popped_is_held}
-use Rattle.forward_defs.specs.Sendings.{Sending, late, sending_at, sendings}
-use Rattle.forward_defs.specs.Forwarded.{sent_record}
-use Rattle.forward_defs.specs.Keeping.{Keeping, keeps_nothing, keeps, record_for, records_of, RecordsAreForwarded}
 
 -- the captured bytes of each queued packet are kept
 abbrev AreKept : Captured → SourceState → Keeping → Type 0

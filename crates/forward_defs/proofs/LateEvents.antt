@@ -1,7 +1,5 @@
 -- The events of a run that ends with its first late departure.
-use Rattle.std.proofs.Common.{◌≡◌, Bool, true, false, true≢false, if◌then◌else◌, List, [], ◌∷◌, ◌++◌, refl, ap, ℕ, Option}
-use Rattle.sched_defs.specs.Events.{Event, Arrive, Depart}
-use Rattle.forward_defs.specs.Sendings.{is_late, up_to_late, has_late}
+use Rattle.forward_defs.proofs.Prelude.{List, [], refl, ℕ, ◌∷◌, ◌≡◌, ap, ◌++◌, Bool, Option, false, if◌then◌else◌, true, true≢false, Event, Arrive, Depart, up_to_late, has_late, is_late}
 
 -- after a departure, if the rest is known
 first_behind : (t : Bool) (start : Option ℕ) (es : List Event) → (others : List Event) × (up_to_late es ++ others ≡ es)

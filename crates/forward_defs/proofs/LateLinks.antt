@@ -1,19 +1,8 @@
 -- The run of a link ends at its first late departure if its events end there. It is whole if no
 -- outcome is late.
-use Rattle.std.proofs.Common.{◌≡◌, ◌≤◌, ℕ, Bool, true, false, true≢false, length, if◌then◌else◌, Option, None, Some, List, [], ◌∷◌, ◌++◌, refl, sym, ap, ◌∙◌, subst, arith}
-use Rattle.tree_defs.specs.SourceTree.{size}
-use Rattle.packet_defs.specs.declared.packet.Packet.{Packet}
-use Rattle.policy_defs.specs.Policy.{Policy}
-use Rattle.sched_defs.specs.SourceState.{SourceState}
-use Rattle.sched_defs.specs.Events.{Event, Arrive, Depart, outcomes, empty_in}
-use Rattle.sched_defs.specs.Faults.{FaultAt}
-use Rattle.sched_defs.specs.Link.{Sent, link_turn, link_course}
-use Rattle.sched_defs.specs.Packets.{Captured}
+use Rattle.forward_defs.proofs.Prelude.{List, [], refl, ℕ, ◌∷◌, ◌≡◌, ap, ◌++◌, Bool, Option, false, if◌then◌else◌, sym, true, None, Some, subst, ◌∙◌, arith, true≢false, length, ◌≤◌, Packet, FaultAt, Policy, outcomes-append, empty_in-append, Event, Arrive, Depart, outcomes, empty_in, link_course, Sent, link_turn, Captured, SourceState, size, Keeping, kept_behind, up_to_late, has_late, is_late}
 use Rattle.sched_defs.specs.declared.rate.LinkRate.{LinkRate}
 use Rattle.sched_defs.proofs.Links.{sending, turn_leads, turn_empty}
-use Rattle.sched_defs.proofs.Runs.{outcomes-append, empty_in-append}
-use Rattle.forward_defs.specs.Sendings.{is_late, up_to_late, has_late}
-use Rattle.forward_defs.specs.Keeping.{Keeping, kept_behind}
 use Rattle.forward_defs.proofs.LateOutcomes.{none_empty_in_front, told_late, stops_at_late, none_is_late}
 
 -- each departure on a link finds a packet

@@ -1,16 +1,7 @@
 -- Take a run whose departures all find a packet. If its events end at a late departure, it ends at
 -- the first one. If no outcome is late, it is whole.
-use Rattle.std.proofs.Common.{◌≡◌, ◌||◌, ◌+◌, ℕ, Bool, true, false, true≢false, if◌then◌else◌, Option, None, Some, List, [], ◌∷◌, ◌++◌, refl, sym, ap, ◌∙◌, subst, arith, append_assoc}
+use Rattle.forward_defs.proofs.Prelude.{List, [], refl, ℕ, ◌∷◌, ◌≡◌, ap, ◌++◌, Bool, Option, false, if◌then◌else◌, sym, true, None, Some, subst, ◌∙◌, arith, true≢false, ◌+◌, append_assoc, ◌||◌, Packet, Policy, outcomes-append, empty_in-append, Event, Arrive, Depart, outcomes, Outcome, Arrived, Departed, Dropped, departure, Empty, after, empty_in, Captured, SourceState, Leaver, arrival_ranks, arrived, class_of, departed, is_full, leaver, Address, Keeping, keeps, kept_behind, up_to_late, has_late, is_late}
 use Rattle.std.proofs.Math.Bool.{or_assoc}
-use Rattle.packet_defs.specs.declared.packet.Packet.{Packet}
-use Rattle.tree_defs.specs.Tree.{Address}
-use Rattle.policy_defs.specs.Policy.{Policy}
-use Rattle.sched_defs.specs.SourceState.{SourceState, Leaver, class_of, arrival_ranks, is_full, arrived, departed, leaver}
-use Rattle.sched_defs.specs.Events.{Event, Arrive, Depart, Outcome, Arrived, Departed, Dropped, Empty, after, departure, outcomes, empty_in}
-use Rattle.sched_defs.specs.Packets.{Captured}
-use Rattle.sched_defs.proofs.Runs.{outcomes-append, empty_in-append}
-use Rattle.forward_defs.specs.Sendings.{is_late, up_to_late, has_late}
-use Rattle.forward_defs.specs.Keeping.{Keeping, keeps, kept_behind}
 use Rattle.forward_defs.proofs.LateEvents.{up_to_late-whole}
 
 -- whether one of the departed packets was late

@@ -1,3 +1,4 @@
+pub mod Prelude
 pub mod LateEvents
 pub mod SentPackets
 pub mod ReadBack

@@ -1,9 +1,6 @@
 -- A capture whose packets have one link type.
-use Rattle.std.proofs.Common.{◌≡◌, ◌+◌, ◌==◌, ℕ, Bool, true, false, true≢false, if◌then◌else◌, Option, Some, List, [], ◌∷◌, refl, ap, sym, subst}
-use Rattle.std.specs.List.{AllByRecursion}
+use Rattle.forward_defs.proofs.Prelude.{List, [], refl, ℕ, ◌∷◌, ◌≡◌, ap, Bool, Option, false, if◌then◌else◌, sym, true, Some, subst, true≢false, ◌+◌, ◌==◌, AllByRecursion, FaultAt, Contents, CapturedPacket}
 use Rattle.std.proofs.lemmas.Bool.{eq-eqb}
-use Rattle.pcap_defs.specs.Packet.{CapturedPacket}
-use Rattle.pcap_defs.specs.Contents.{FaultAt, Contents}
 use Rattle.forward_defs.specs.SingleLinkType.{other_link, of_link, of_one_link, behind_packet}
 use Rattle.forward_defs.specs.Laws.{OneLinkIsWhole}
 

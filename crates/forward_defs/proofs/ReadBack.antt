@@ -1,30 +1,16 @@
 -- Forwarded captures are read back.
-use Rattle.std.proofs.Common.{◌≡◌, ◌≤◌, ◌<◌, ◌+◌, ◌*◌, ◌/◌, ◌%◌, ◌^◌, ℕ, None, List, [], ◌∷◌, ◌++◌, length, map, refl, sym, ap, ◌∙◌, subst, arith}
+use Rattle.forward_defs.proofs.Prelude.{List, [], refl, ℕ, ◌∷◌, ◌≡◌, ap, ◌++◌, sym, None, subst, ◌∙◌, arith, ◌+◌, length, ◌≤◌, map, ◌%◌, ◌/◌, ◌<◌, ◌^◌, ◌*◌, AllByRecursion, holds, CapturedPacket, packet_with, Policy, outcomes-append, CanMake-front, none_lost, pushed_in-append, sound_start, Event, outcomes, CanMake, after, popped_in, pushed_in, link_course, Captured, IsKnown, start, size, sent_record, forward_bytes, sent_packet, up_to_late, Sending, late, sendings}
 use Rattle.std.specs.Prelude.{All}
-use Rattle.std.specs.List.{AllByRecursion}
 use Rattle.std.proofs.lemmas.List.Elements.{All-nil, All-cons}
 use Rattle.tree_defs.specs.Topology.{topology_of}
-use Rattle.tree_defs.specs.SourceTree.{size}
 use Rattle.tree_defs.proofs.WellFormedLaws.{size-empty}
 use Rattle.pcap_defs.specs.Record.{most_captured}
 use Rattle.pcap_defs.specs.Reading.{Capture, packets, capture_of}
-use Rattle.pcap_defs.specs.Packet.{CapturedPacket, packet_with}
-use Rattle.pcap_defs.specs.Contents.{holds}
 use Rattle.pcapng_defs.specs.NgContents.{in_either, in_ng_capture}
 use Rattle.pcap_core.specs.Bytes.{head_with}
 use Rattle.pcap_core.specs.Laws.{IsWritable}
 use Rattle.pcap_core.proofs.BytesLaws.{are_read_back}
-use Rattle.policy_defs.specs.Policy.{Policy}
-use Rattle.sched_defs.specs.SourceState.{start}
-use Rattle.sched_defs.specs.Sound.{IsKnown}
-use Rattle.sched_defs.specs.Events.{Event, after, outcomes, pushed_in, popped_in, CanMake}
-use Rattle.sched_defs.specs.Link.{link_course}
-use Rattle.sched_defs.proofs.Soundness.{sound_start}
-use Rattle.sched_defs.proofs.Runs.{CanMake-front, outcomes-append, pushed_in-append, none_lost}
 use Rattle.sched_defs.proofs.Links.{link_can, link_leaves}
-use Rattle.forward_defs.specs.Sendings.{Sending, late, sendings, up_to_late}
-use Rattle.sched_defs.specs.Packets.{Captured}
-use Rattle.forward_defs.specs.Forwarded.{sent_record, sent_packet, forward_bytes}
 use Rattle.forward_defs.specs.Laws.{FitsRecord, ForwardedAreReadBack, ForwardedRunsAreReadBack}
 use Rattle.forward_defs.proofs.LateEvents.{up_to_late-first}
 use Rattle.forward_defs.proofs.SentPackets.{sendings-on_time, sendings-few, sendings-known}

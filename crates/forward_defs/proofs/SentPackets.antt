@@ -1,17 +1,8 @@
 -- The departures of outcomes: they are on time, there are at most as many as packets departed, and
 -- their packets are known.
-use Rattle.std.proofs.Common.{◌≡◌, ◌≤◌, ◌<◌, ◌+◌, ℕ, Bool, true, false, nat_lt, Option, None, Some, List, [], ◌∷◌, ◌++◌, length, if◌then◌else◌, refl, arith}
-use Rattle.std.specs.List.{AllByRecursion}
+use Rattle.forward_defs.proofs.Prelude.{List, [], refl, ℕ, ◌∷◌, ◌≡◌, ◌++◌, Bool, Option, false, if◌then◌else◌, true, None, Some, arith, ◌+◌, length, ◌≤◌, nat_lt, ◌<◌, AllByRecursion, Packet, IsAccepted, Policy, sound_arrived, sound_departed, Event, Arrive, Depart, outcomes, Outcome, Arrived, CanMake, Departed, Dropped, departure, Empty, popped_in, IsKnown, IsSound, SourceState, Leaver, arrival_ranks, arrived, class_of, departed, is_full, leaver, Sending, late, sendings, sending_at}
 use Rattle.std.proofs.lemmas.Bool.{ltb-true}
-use Rattle.packet_defs.specs.declared.packet.Packet.{Packet}
-use Rattle.policy_defs.specs.Policy.{Policy}
-use Rattle.policy_defs.specs.Accepted.{IsAccepted}
-use Rattle.sched_defs.specs.SourceState.{SourceState, Leaver, class_of, arrival_ranks, is_full, arrived, departed, leaver}
-use Rattle.sched_defs.specs.Sound.{IsSound, IsKnown}
-use Rattle.sched_defs.specs.Events.{Event, Arrive, Depart, Outcome, Arrived, Departed, Dropped, Empty, departure, outcomes, popped_in, CanMake}
-use Rattle.sched_defs.proofs.Soundness.{sound_arrived, sound_departed}
 use Rattle.sched_defs.proofs.Leaving.{leaves_its_leaf}
-use Rattle.forward_defs.specs.Sendings.{Sending, late, sending_at, sendings}
 
 module _ (P : Sending → Type 0) where
   -- followed by others of which P holds

@@ -1,14 +1,5 @@
 -- Events made in turn by a scheduler that is known to represent a state.
-use Rattle.std.proofs.Common.{◌≡◌, Bool, false, if◌then◌else◌, Ok, sym, ap, ◌∙◌, subst}
-use Rattle.packet_defs.specs.declared.packet.Packet.{Packet}
-use Rattle.policy_defs.specs.Policy.{Policy}
-use Rattle.policy_defs.specs.Accepted.{IsAccepted}
-use Rattle.sched_defs.specs.SourceState.{SourceState, is_full, arrived, departed}
-use Rattle.sched_defs.proofs.Soundness.{sound_departed}
-use Rattle.sched_core.specs.declared.scheduler.Arrival.{Arrival}
-use Rattle.sched_core.specs.declared.scheduler.Arrival.TheVariants.{Pushed, Dropped}
-use Rattle.sched_core.specs.Arrivals.{leaf_number, arrival_of, pushes_of}
-use Rattle.sched_core.specs.Standing.{StandForOne, ForEachState}
+use Rattle.library_tests.proofs.Prelude.{◌≡◌, ◌∙◌, sym, ap, subst, false, Bool, Ok, if◌then◌else◌, Packet, IsAccepted, Policy, pushes_of, arrival_of, leaf_number, StandForOne, ForEachState, Arrival, Dropped, Pushed, sound_departed, arrived, SourceState, is_full, departed}
 
 module _ {C U : Type 0} (stands : C → U → SourceState → Type 0) (own policy : Policy) (same : own ≡ policy) (accepted : IsAccepted policy) (c : C) (u : U) where
   -- a requirement on the policy is also one on the scheduler's own policy

@@ -1,10 +1,8 @@
 -- Two packets that arrive at a single leaf in either order.
+use Rattle.library_tests.proofs.Prelude.{arith, ◌≡◌, ◌∙◌, sym, ap, refl, subst, false, ℕ, Bool, List, None, Some, [], if◌then◌else◌, length, ◌+◌, ◌<◌, ◌≢◌, true, ◌∷◌, IsSomeAnd, max, nat_eq, Packet, IsAccepted, IsClassReady, Policy, Node, node_at, Class, limit_at, Program, Span, StandForOne, sound_arrived, sound_start, by_fullness, with_packet-other, Arrive, CanMake, after, IsSendable, arrived, SourceState, start, is_full, Held, class_of, dropped, filled, pushed, with_packet, depth, Address, Tree, inner, leaf, IsAddressOf, LeadsToLeaf, SameShape, more, none, subtree}
 use Rattle.std.specs.Option.{option_map_or}
-use Rattle.std.proofs.Common.{◌≡◌, ◌≢◌, ◌<◌, ◌+◌, ℕ, Bool, true, false, Some, None, List, [], ◌∷◌, length, refl, sym, ap, ◌∙◌, subst, arith}
-use Rattle.std.specs.Prelude.{IsSomeAnd, nat_eq, max, if◌then◌else◌}
 use Rattle.std.specs.List.{AllByRecursion}
 use Rattle.std.proofs.lemmas.Bool.Decides.{Decides-eqb}
-use Rattle.tree_defs.specs.Tree.{Tree, leaf, inner, none, more, Address, LeadsToLeaf, IsAddressOf, SameShape, depth, subtree}
 use Rattle.tree_defs.specs.Queue.{Queue}
 use Rattle.tree_defs.specs.Topology.{Topology, topology_of}
 use Rattle.tree_defs.specs.SourceTree.{size}
@@ -12,25 +10,15 @@ use Rattle.tree_defs.specs.Packets.{queue_at}
 use Rattle.tree_defs.proofs.WellFormedLaws.{size-empty}
 use Rattle.embed_defs.specs.Levels.{Arities}
 use Rattle.embed_defs.specs.Canonical.{canonical, IsCanonical}
-use Rattle.rank_defs.specs.declared.transaction.Span.{Span}
 use Rattle.rank_defs.specs.States.{State, SameState}
-use Rattle.rank_defs.specs.Programs.{Program}
 use Rattle.rank_defs.specs.Shapes.{IsStateInRange, AreWithin}
-use Rattle.packet_defs.specs.declared.packet.Packet.{Packet}
-use Rattle.policy_defs.specs.Policy.{Policy, Node, Class, node_at, limit_at}
-use Rattle.policy_defs.specs.Accepted.{IsAccepted, IsClassReady}
-use Rattle.sched_defs.specs.SourceState.{Held, SourceState, start, with_packet, class_of, filled, is_full, dropped, pushed, arrived}
 use Rattle.sched_defs.specs.Sound.{IsSound}
-use Rattle.sched_defs.specs.Events.{Arrive, CanMake, after}
-use Rattle.sched_defs.proofs.Soundness.{sound_start, sound_arrived, with_packet-other, by_fullness}
 use Rattle.sched_defs.proofs.Leaving.{size_pushed}
-use Rattle.sched_defs.specs.Numbered.{IsSendable}
 use Rattle.sched_defs.proofs.Runs.{sound_after}
 use Rattle.rank_defs.proofs.SameStates.{same-trans}
 use Rattle.embed_defs.specs.Images.{image_map}
 use Rattle.embed_defs.specs.Lift.{IsLift}
 use Rattle.fabric_core.specs.declared.fabric.Fabric.{Ghosts}
-use Rattle.sched_core.specs.Standing.{StandForOne}
 use Rattle.sched_core.specs.PolicyState.{policy_in}
 use Rattle.sched_embedded.specs.declared.embedded.Embedded.{Embedded}
 use Rattle.sched_embedded.specs.Embedded.{EmbeddedStands, origin_of}

@@ -1,3 +1,4 @@
+pub mod Prelude
 pub mod EventTurns
 pub mod Exchanges
 pub mod Roots

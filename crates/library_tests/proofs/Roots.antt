@@ -1,10 +1,5 @@
 -- Properties of the node with number 0, which is the root.
-use Rattle.std.proofs.Common.{◌≡◌, ◌<◌, ℕ, false, Option, Some, None, List, [], refl, sym, ap, ◌∙◌, subst, arith}
-use Rattle.std.specs.Prelude.{IsSomeAnd, is_some}
-use Rattle.tree_defs.specs.Tree.{Tree, leaf, inner, Address, nodes}
-use Rattle.rank_defs.specs.declared.transaction.Span.{Span}
-use Rattle.rank_defs.specs.Programs.{Program}
-use Rattle.policy_defs.specs.Policy.{Node, node_at}
+use Rattle.library_tests.proofs.Prelude.{arith, ◌≡◌, ◌∙◌, sym, ap, refl, subst, false, ℕ, List, None, Some, [], ◌<◌, Option, IsSomeAnd, is_some, Node, node_at, Program, Span, Address, Tree, inner, leaf, nodes}
 use Rattle.policy_core.specs.Numbering.{address_at}
 
 -- the node with number 0 is the root

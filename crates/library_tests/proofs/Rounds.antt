@@ -1,19 +1,7 @@
 -- An arrival that succeeds or runs out of memory.
-use Rattle.std.proofs.Common.{◌≡◌, ◌≤◌, ◌+◌, Ok, Err, refl, subst, arith}
-use Rattle.std.specs.Prelude.{Result, OnOk, OnErr}
+use Rattle.library_tests.proofs.Prelude.{arith, ◌≡◌, refl, subst, ◌≤◌, Ok, ◌+◌, Err, OnErr, OnOk, Result, Packet, IsAccepted, Policy, pushes_of, StandForOne, ForEachState, Arrival, Dropped, Pushed, sound_arrived, CanArrive, IsSendable, IsHeldBelow, arrived, SourceState}
 use Rattle.std.specs.declared.alloc.AllocError.{AllocError}
-use Rattle.packet_defs.specs.declared.packet.Packet.{Packet}
-use Rattle.policy_defs.specs.Policy.{Policy}
-use Rattle.policy_defs.specs.Accepted.{IsAccepted}
-use Rattle.sched_defs.specs.SourceState.{SourceState, arrived}
-use Rattle.sched_defs.specs.Events.{CanArrive}
-use Rattle.sched_defs.specs.Numbered.{IsSendable, IsHeldBelow}
-use Rattle.sched_defs.proofs.Soundness.{sound_arrived}
 use Rattle.sched_defs.proofs.Courses.{held_none, held_arrived}
-use Rattle.sched_core.specs.declared.scheduler.Arrival.{Arrival}
-use Rattle.sched_core.specs.declared.scheduler.Arrival.TheVariants.{Pushed, Dropped}
-use Rattle.sched_core.specs.Arrivals.{pushes_of}
-use Rattle.sched_core.specs.Standing.{StandForOne, ForEachState}
 use Rattle.library_tests.proofs.EventTurns.{stands_arrived}
 
 -- a packet can arrive if all queued packets have lower numbers

@@ -1,15 +1,8 @@
 -- The images of a given map, each mapped through a placement, are an embedding.
-use Rattle.std.proofs.Common.{◌≡◌, ℕ, List, [], length, get_or, map, Some, None, refl, sym, ap, ◌∙◌, subst, arith}
-use Rattle.std.specs.Prelude.{unwrap_or}
-use Rattle.std.specs.List.{All}
-use Rattle.std.proofs.lemmas.List.{get_or-map}
+use Rattle.mapcheck_core.proofs.Prelude.{◌≡◌, sym, List, ℕ, subst, ◌∙◌, ap, [], refl, map, arith, None, Some, length, get_or, get_or-map, All, unwrap_or, IsEmbedding, image_map, image_at, number_of, HoldsImages, image_in, Topology, topologies_of, topology_of, nodes, Address, inner, IsAddressOf, more, none, Trees, SameShape, SameShapes, Tree}
 use Rattle.std.proofs.lemmas.List.Elements.{All-from_get_or}
-use Rattle.tree_defs.specs.Tree.{Tree, leaf, inner, Trees, none, more, Address, IsAddressOf, SameShape, SameShapes, nodes}
-use Rattle.tree_defs.specs.Topology.{Topology, topology_of, topologies_of}
-use Rattle.embed_defs.specs.Embedding.{IsEmbedding}
-use Rattle.embed_defs.specs.Images.{image_at, image_map}
+use Rattle.tree_defs.specs.Tree.{leaf}
 use Rattle.embed_defs.proofs.Subtrees.{same_address}
-use Rattle.embed_defs.specs.Preorder.{number_of, image_in, HoldsImages}
 use Rattle.embed_defs.proofs.ComposedMaps.{embeddings_compose, agreeing}
 use Rattle.mapcheck_core.proofs.NumberLaws.{at_number, number_inside}
 use Rattle.mapcheck_core.specs.Composition.{IsComposed}

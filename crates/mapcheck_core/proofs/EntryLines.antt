@@ -1,12 +1,6 @@
 -- The entries of lines that are read one by one.
-use Rattle.std.proofs.Common.{◌≡◌, ◌⊎◌, ℕ, ◌+◌, ◌<◌, List, length, get_or, take, map, inl, inr, sym, subst}
-use Rattle.text_core.specs.declared.line.Line.{Line}
-use Rattle.text_core.specs.Lines.{line_text, statements_of}
-use Rattle.mapcheck_core.specs.declared.fault.MapFault.{MapFault}
+use Rattle.mapcheck_core.proofs.Prelude.{◌≡◌, sym, List, ℕ, subst, map, inr, ◌+◌, ◌<◌, length, inl, take, get_or, ◌⊎◌, statements_of, line_text, Line, MapGives, MapLine, IsInNoForm, Give, IsFirstAtFault, InNoForm, MapFault}
 use Rattle.mapcheck_core.specs.declared.fault.MapFault.TheVariants as fault
-use Rattle.mapcheck_core.specs.NumberedLines.{Give, InNoForm, IsFirstAtFault}
-use Rattle.mapcheck_core.specs.MapLines.{MapLine, MapGives}
-use Rattle.mapcheck_core.specs.MapTexts.{IsInNoForm}
 use Rattle.mapcheck_core.proofs.LineLaws.{fault_here}
 
 -- the error of the line at an index

@@ -1,8 +1,6 @@
 -- Well-formed lines have only one list of entries, and a text has only one first line with an
 -- error.
-use Rattle.std.proofs.Common.{◌≡◌, ℕ, ◌+◌, List, [], ◌∷◌, ◌++◌, length, sym, refl, ap, ◌∙◌, subst, arith, append_assoc}
-use Rattle.std.proofs.lemmas.List.{append-nil}
-use Rattle.mapcheck_core.specs.NumberedLines.{Give, over, next, IsFirstAtFault}
+use Rattle.mapcheck_core.proofs.Prelude.{◌≡◌, sym, List, ℕ, subst, ◌∙◌, ap, [], refl, arith, ◌∷◌, ◌+◌, length, ◌++◌, append_assoc, append-nil, Give, IsFirstAtFault, over, next}
 
 -- one more line
 pub Give-push : {A : Type 0} (Gives : ℕ → List ℕ → List A → Type 0) (n : ℕ) (ls : List (List ℕ)) (ss : List A) (l : List ℕ) (s : List A) → Give Gives n ls ss → Gives (n + length ls) l s → Give Gives n (ls ++ l ∷ []) (ss ++ s)

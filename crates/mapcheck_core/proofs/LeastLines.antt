@@ -1,11 +1,6 @@
 -- The least line number for which a test holds, searched node by node.
-use Rattle.std.proofs.Common.{◌≡◌, ℕ, ◌+◌, ◌<◌, ◌≤◌, Bool, true, false, List, [], length, Option, Some, None, get_or, refl, sym, ap, ◌∙◌, subst, arith, inl, inr, min, below_more}
-use Rattle.std.proofs.lemmas.Bool.{both_ways, cases_lt}
-use Rattle.std.proofs.lemmas.List.{get_or_default}
-use Rattle.tree_defs.specs.Topology.{Topology}
-use Rattle.mapcheck_core.specs.declared.given.Given.{Given}
+use Rattle.mapcheck_core.proofs.Prelude.{◌≡◌, sym, List, ℕ, subst, ◌∙◌, ap, [], refl, arith, None, inr, ◌+◌, Some, ◌<◌, false, length, true, ◌≤◌, inl, Option, get_or, Bool, below_more, min, both_ways, cases_lt, get_or_default, Topology, IsLeast, breaks_at, lower_of, breaks, Given}
 use Rattle.mapcheck_core.specs.declared.check.Demand.{Demand}
-use Rattle.mapcheck_core.specs.Checks.{IsLeast, lower_of, breaks, breaks_at}
 
 pub least_skip : (test : ℕ → Bool) (lines : List ℕ) (n : ℕ) (o : Option ℕ) → IsLeast test lines n o → test n ≡ false → IsLeast test lines (n + 1) o
 least_skip test lines n None l f = below_more (λ (k : ℕ). test k ≡ false) n l f

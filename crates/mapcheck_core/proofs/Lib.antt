@@ -1,3 +1,4 @@
+pub mod Prelude
 pub mod NumberLaws
 pub mod PrefixLaws
 pub mod PlaceLaws

@@ -1,15 +1,6 @@
 -- The entry of a map's line that begins with two words.
-use Rattle.std.proofs.Common.{◌≡◌, ℕ, Bool, true, false, ◌&&◌, if◌then◌else◌, List, ◌∷◌, Option, Some, None, option_map, sym, refl, ap, ◌∙◌}
-use Rattle.std.specs.Prelude.{codes}
-use Rattle.std.specs.Str.{bytes_eq}
-use Rattle.std.proofs.lemmas.Bool.{and_from}
-use Rattle.text_core.specs.Glyphs.{Glyph, text}
-use Rattle.text_core.specs.Says.{Says}
-use Rattle.text_core.proofs.SaysLaws.{Says-one}
+use Rattle.mapcheck_core.proofs.Prelude.{◌≡◌, sym, List, ℕ, ◌∙◌, ap, refl, ◌∷◌, None, Some, false, true, Option, Bool, option_map, if◌then◌else◌, ◌&&◌, and_from, codes, bytes_eq, Says-one, Glyph, text, Says, Address, MapGives, map_line, image_said, one_line, InNoForm}
 use Rattle.policy_text_defs.specs.Words.{is_name, passing, some_if}
-use Rattle.tree_defs.specs.Tree.{Address}
-use Rattle.mapcheck_core.specs.NumberedLines.{InNoForm}
-use Rattle.mapcheck_core.specs.MapLines.{MapGives, image_said, one_line, map_line}
 
 -- the name is accepted, and is the word
 passed : (b : Bool) (w v : List ℕ) → some_if b w ≡ Some v → (b ≡ true) × (w ≡ v)

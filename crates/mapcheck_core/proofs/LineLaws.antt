@@ -1,10 +1,5 @@
 -- The loop over the lines of a text.
-use Rattle.std.proofs.Common.{◌≡◌, ℕ, zero, suc, ◌+◌, ◌<◌, ◌≤◌, List, [], ◌∷◌, ◌++◌, length, get_or, take, drop, map, sym, refl, ap, ◌∙◌, subst, arith}
-use Rattle.std.proofs.Math.Seq.{take-suc, drop-cons}
-use Rattle.std.proofs.lemmas.List.{map-append, length-map, take-append-drop, take_all}
-use Rattle.text_core.specs.declared.line.Line.{Line}
-use Rattle.text_core.specs.Lines.{line_text, statements_of}
-use Rattle.mapcheck_core.specs.NumberedLines.{Give, IsFirstAtFault}
+use Rattle.mapcheck_core.proofs.Prelude.{◌≡◌, sym, List, ℕ, subst, ◌∙◌, ap, [], refl, map, arith, ◌∷◌, ◌+◌, ◌<◌, length, ◌≤◌, ◌++◌, take, get_or, drop, suc, zero, drop-cons, take-suc, map-append, length-map, take_all, take-append-drop, statements_of, line_text, Line, Give, IsFirstAtFault}
 use Rattle.mapcheck_core.proofs.GiveLaws.{Give-push}
 
 front_size : (i : ℕ) (ls : List Line) → i ≤ length ls → length (take i ls) ≡ i

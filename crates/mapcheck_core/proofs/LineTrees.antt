@@ -1,17 +1,5 @@
 -- The contents of a line: a tree of some size, or no tree.
-use Rattle.std.proofs.Common.{◌≡◌, ◌⊎◌, ℕ, ◌<◌, ◌≤◌, true, false, List, [], ◌∷◌, Option, Some, None, option_map, inl, inr, sym, refl, ap, ◌∙◌, subst}
-use Rattle.std.proofs.lemmas.Bool.{both_ways}
-use Rattle.text_core.specs.declared.item.Item.{Item}
-use Rattle.text_core.specs.Glyphs.{Glyph, glyphs_of}
-use Rattle.text_core.specs.Lines.{is_clean_text}
-use Rattle.text_core.specs.Says.{Says}
-use Rattle.text_core.proofs.SaysLaws.{Says-one}
-use Rattle.tree_defs.specs.Tree.{nodes, depth, most_nodes, most_levels}
-use Rattle.tree_defs.specs.Topology.{Topology}
-use Rattle.mapcheck_core.specs.declared.nest.Nest.{Nest}
-use Rattle.mapcheck_core.specs.NumberedLines.{InNoForm}
-use Rattle.mapcheck_core.specs.TreeTexts.{written, TreeLine, one_tree, TreeGives, nothing, tree, IsSmall, IsLarge}
-use Rattle.mapcheck_core.specs.TreeReading.{measured, read_on}
+use Rattle.mapcheck_core.proofs.Prelude.{◌≡◌, sym, List, ℕ, subst, ◌∙◌, ap, [], refl, ◌∷◌, None, inr, Some, ◌<◌, false, true, ◌≤◌, inl, Option, ◌⊎◌, option_map, both_ways, Says-one, glyphs_of, Glyph, is_clean_text, Says, Item, Topology, nodes, depth, most_levels, most_nodes, InNoForm, read_on, measured, nothing, IsLarge, TreeGives, TreeLine, one_tree, tree, written, IsSmall, Nest}
 use Rattle.mapcheck_core.proofs.ReadLaws.{read-written, read-is_written}
 use Rattle.mapcheck_core.proofs.SizeLaws.{size_of, measured-is}
 

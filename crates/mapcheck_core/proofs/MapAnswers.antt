@@ -1,15 +1,7 @@
 -- A line of a map has only one list of entries, and a text has only one answer as a map.
-use Rattle.std.proofs.Common.{◌≡◌, ℕ, ◌≤◌, List, [], length, Option, Some, None, Result, Ok, Err, ◌⊎◌, inl, inr, sym, refl, ap, ◌∙◌, subst, arith}
-use Rattle.std.specs.Prelude.{IfOk}
-use Rattle.std.proofs.lemmas.List.{length-map}
-use Rattle.text_core.specs.Lines.{statements_of}
-use Rattle.text_core.proofs.SaysLaws.{Says-one}
-use Rattle.mapcheck_core.specs.declared.given.Given.{Given}
-use Rattle.mapcheck_core.specs.declared.fault.MapFault.{MapFault}
+use Rattle.mapcheck_core.proofs.Prelude.{◌≡◌, sym, List, ℕ, subst, ◌∙◌, ap, [], refl, arith, None, inr, Some, length, ◌≤◌, inl, Option, ◌⊎◌, Err, Result, Ok, length-map, IfOk, Says-one, statements_of, MapGives, MapLine, map_line, IsInNoForm, line_for, AreMapLines, IsMapAnswer, answer_of, missing_node, most_map_bytes, repeated_line, unknown_line, Fits, in_form, map_given, name_answer, node_answer, repeat_answer, IsFirstAtFault, MapFault, Given}
 use Rattle.mapcheck_core.specs.declared.fault.MapFault.TheVariants as fault
-use Rattle.mapcheck_core.specs.NumberedLines.{IsFirstAtFault}
-use Rattle.mapcheck_core.specs.MapLines.{MapLine, MapGives, map_line}
-use Rattle.mapcheck_core.specs.MapTexts.{most_map_bytes, missing_node, repeated_line, unknown_line, line_for, map_given, node_answer, repeat_answer, name_answer, answer_of, AreMapLines, IsInNoForm, IsMapAnswer, too_long, no_form, in_form, Fits}
+use Rattle.mapcheck_core.specs.MapTexts.{too_long, no_form}
 use Rattle.mapcheck_core.proofs.GiveLaws.{Give-one, Tells, IsFirstAtFault-one, Give-right}
 
 pub MapGives-one : (n : ℕ) (l : List ℕ) (s t : List MapLine) → MapGives n l s → MapGives n l t → s ≡ t

@@ -1,21 +1,10 @@
 -- From tests on node numbers to the clauses of an embedding.
-use Rattle.std.proofs.Common.{◌≡◌, ℕ, ◌-◌, ◌<◌, ◌≤◌, Bool, true, false, List, [], length, Option, Some, None, get_or, refl, sym, ap, ◌∙◌, subst, arith, inl, inr, eq-eqb}
-use Rattle.std.proofs.lemmas.Bool.{both_ways, cases_lt, cases_order, not-true, not_from_false, false_from_ne_true, true_from_ne_false, and_parts, and_from, eqb-true}
-use Rattle.std.proofs.lemmas.List.{get_or_default}
+use Rattle.mapcheck_core.proofs.Prelude.{◌≡◌, sym, List, ℕ, subst, ◌∙◌, ap, [], refl, arith, None, inr, Some, ◌<◌, false, length, true, ◌≤◌, inl, Option, get_or, Bool, ◌-◌, eq-eqb, both_ways, and_parts, cases_lt, and_from, eqb-true, false_from_ne_true, cases_order, not-true, not_from_false, true_from_ne_false, get_or_default, IsEmbedding, number_of, leaf_at, Topology, IsBranched, IsPrefixOf, nodes, Address, IsAddressOf, subtree, LeadsToLeaf, IsLeast, breaks_at, IsFirstPair, is_broken, is_prefix, differ, lies_in, image_of, prefix, Breaks, IsOutside, MissesLeaf, outside, root, HoldsNowhere, IsInside, IsLeastLine, KeepsLeaves, KeepsPrefix, KeepsRoot, line_of, IsLeastPair, span_at, MapFault, Given}
 use Rattle.embed_defs.proofs.Addresses.{none_unless}
-use Rattle.tree_defs.specs.Tree.{Address, subtree, nodes, IsAddressOf, LeadsToLeaf}
 use Rattle.tree_defs.specs.Tree as tree
-use Rattle.tree_defs.proofs.TopologyLaws.{leaf_at}
-use Rattle.tree_defs.specs.Topology.{Topology, IsBranched, IsPrefixOf}
-use Rattle.embed_defs.specs.Embedding.{IsEmbedding}
-use Rattle.embed_defs.specs.Preorder.{number_of}
-use Rattle.mapcheck_core.specs.declared.given.Given.{Given}
-use Rattle.mapcheck_core.specs.declared.fault.MapFault.{MapFault}
 use Rattle.mapcheck_core.specs.declared.fault.MapFault.TheVariants as fault
 use Rattle.mapcheck_core.specs.declared.check.Demand.TheVariants as demand
-use Rattle.mapcheck_core.specs.Numbers.{span_at}
-use Rattle.mapcheck_core.specs.GivenMaps.{image_of, line_of, IsOutside, MissesLeaf, KeepsPrefix, HoldsNowhere, IsLeastLine, IsLeastPair, IsInside, KeepsRoot, KeepsLeaves, Breaks, outside, root, leaf, prefix}
-use Rattle.mapcheck_core.specs.Checks.{breaks_at, IsLeast, is_broken, lies_in, is_prefix, differ, IsFirstPair}
+use Rattle.mapcheck_core.specs.GivenMaps.{leaf}
 use Rattle.mapcheck_core.proofs.NumberLaws.{positive, at_number, number_inside, span_is, number_root}
 use Rattle.mapcheck_core.proofs.PrefixLaws.{prefix_inside, inside_prefix, there, prefix_true, true_prefix, address_true, leaf_true, true_leaf, single_leaf, leaf_single, inside_true, true_inside}
 

@@ -1,11 +1,8 @@
 -- Worked examples of maps that break each clause of an embedding.
-use Rattle.std.proofs.Common.{◌≡◌, ◌<◌, ◌≤◌, ◌⊎◌, zero, suc, [], ◌∷◌, inl, inr, refl, arith}
-use Rattle.tree_defs.specs.Tree.{Address, IsAddressOf, leaf, inner, none, more}
-use Rattle.tree_defs.specs.Topology.{Topology, IsPrefixOf}
-use Rattle.embed_defs.specs.Preorder.{number_of}
-use Rattle.mapcheck_core.specs.declared.given.Given.{Given}
+use Rattle.mapcheck_core.proofs.Prelude.{◌≡◌, [], refl, arith, ◌∷◌, inr, ◌<◌, ◌≤◌, inl, ◌⊎◌, suc, zero, number_of, Topology, IsPrefixOf, Address, inner, IsAddressOf, more, none, image_of, prefix, Breaks, IsOutside, MissesLeaf, outside, root, KeepsPrefix, Given}
+use Rattle.tree_defs.specs.Tree.{leaf}
 use Rattle.mapcheck_core.specs.declared.fault.MapFault.TheVariants as fault
-use Rattle.mapcheck_core.specs.GivenMaps.{image_of, IsOutside, MissesLeaf, KeepsPrefix, Breaks, outside, root, leaf as leaf_breaks, prefix}
+use Rattle.mapcheck_core.specs.GivenMaps.{leaf as leaf_breaks}
 
 abbrev a_leaf : Topology
 a_leaf = leaf tt

@@ -1,16 +1,7 @@
 -- The lines that name each node, and lists with one more element.
-use Rattle.std.proofs.Common.{◌≡◌, ℕ, zero, suc, ◌+◌, ◌<◌, Bool, true, false, cond, not, List, [], ◌∷◌, ◌++◌, length, get_or, take, map, position, Some, None, inl, inr, refl, sym, ap, ◌∙◌, arith}
-use Rattle.std.specs.Prelude.{◌||◌}
+use Rattle.mapcheck_core.proofs.Prelude.{◌≡◌, sym, List, ℕ, ◌∙◌, ap, [], refl, map, arith, ◌∷◌, None, inr, ◌+◌, Some, ◌<◌, false, length, true, inl, ◌++◌, take, get_or, Bool, suc, zero, cond, not, ◌||◌, position, take-suc, cases_Bool, lt-ltb, map-append, bytes_eq-Decides, list_any, position_or_len, bytes_eq, MapLine, has, named, missing_node}
 use Rattle.std.specs.Bool.{Decides}
-use Rattle.std.specs.List.{position_or_len, list_any}
-use Rattle.std.specs.Str.{bytes_eq}
-use Rattle.std.proofs.Math.Seq.{take-suc}
-use Rattle.std.proofs.lemmas.Bool.{cases_Bool, lt-ltb}
 use Rattle.std.proofs.lemmas.Bool.Decides.{same_from_decides}
-use Rattle.std.proofs.lemmas.Slice.Eq.{bytes_eq-Decides}
-use Rattle.std.proofs.lemmas.List.{map-append}
-use Rattle.mapcheck_core.specs.MapLines.{MapLine}
-use Rattle.mapcheck_core.specs.MapTexts.{has, named, missing_node}
 
 before_end : {X : Type 0} (p : X → Bool) (xs : List X) (k : ℕ) (d : X) → k < length xs → p (get_or xs k d) ≡ true → position_or_len p xs < length xs
 before_end p [] k d low found = absurd (omega arith)

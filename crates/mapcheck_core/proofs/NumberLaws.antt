@@ -1,11 +1,7 @@
 -- The numbers of addresses in preorder.
-use Rattle.std.proofs.Common.{◌≡◌, ℕ, zero, suc, ◌+◌, ◌-◌, ◌<◌, ◌≤◌, [], ◌∷◌, ◌++◌, Some, refl, sym, ap, ◌∙◌, subst, arith, inl, inr, ltb}
-use Rattle.std.proofs.lemmas.Bool.{cases_Bool, ltb-true, ltb-false, lt-ltb, le-ltb}
-use Rattle.tree_defs.specs.Tree.{leaf, inner, Trees, none, more, Address, subtree, subtree_in, nodes, nodes_below}
-use Rattle.tree_defs.specs.Topology.{Topology, IsBranched, AreBranched}
+use Rattle.mapcheck_core.proofs.Prelude.{◌≡◌, sym, ℕ, subst, ◌∙◌, ap, [], refl, arith, ◌∷◌, inr, ◌+◌, Some, ◌<◌, ◌≤◌, inl, ◌++◌, suc, zero, ltb, ◌-◌, cases_Bool, lt-ltb, ltb-true, ltb-false, le-ltb, number_of, number_below, Topology, IsBranched, AreBranched, nodes, Address, inner, more, nodes_below, none, Trees, subtree, subtree_in, span_at, span_below}
+use Rattle.tree_defs.specs.Tree.{leaf}
 use Rattle.tree_core.proofs.NewTrees.{are_branched}
-use Rattle.embed_defs.specs.Preorder.{number_of, number_below}
-use Rattle.mapcheck_core.specs.Numbers.{span_at, span_below}
 
 pub some_same : (t u : Topology) → Some t ≡ Some u → t ≡ u
 some_same t u e = cc

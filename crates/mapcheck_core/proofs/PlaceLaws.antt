@@ -1,15 +1,8 @@
 -- One step down a topology along an address, and the test of a prefix.
-use Rattle.std.proofs.Common.{◌≡◌, ℕ, zero, suc, ◌<◌, ◌≤◌, true, false, List, [], ◌∷◌, length, get_or, map, None, Vec, Global, refl, sym, ap, ◌∙◌, subst, arith, inl, inr, eqb, ltb}
-use Rattle.std.proofs.lemmas.Bool.{cases_Bool, ltb-true, ltb-false}
-use Rattle.std.specs.List.{starts_with}
-use Rattle.tree_defs.specs.Tree.{Address, trees_of, subtree, subtree_in}
-use Rattle.tree_defs.specs.Topology.{Topology}
-use Rattle.tree_core.specs.Shape.{topology}
-use Rattle.tree_core.specs.declared.topo.Topo.{Topo}
+use Rattle.mapcheck_core.proofs.Prelude.{◌≡◌, sym, List, ℕ, subst, ◌∙◌, ap, [], refl, map, arith, ◌∷◌, None, inr, ◌<◌, false, length, true, ◌≤◌, inl, get_or, suc, zero, ltb, Global, Vec, eqb, cases_Bool, ltb-true, ltb-false, starts_with, topology, Topo, Topology, Address, trees_of, subtree, subtree_in, is_prefix}
 use Rattle.tree_core.specs.declared.topo.Topo.TheViews as views
 use Rattle.tree_core.proofs.NewTrees.{topology_inner}
 use Rattle.tree_core.proofs.AddressSteps.{rest, rest-is}
-use Rattle.mapcheck_core.specs.Checks.{is_prefix}
 
 child_at : (xs : List Topo) (i : ℕ) (x : Topo) (a : Address) → i < length xs → x ≡ get_or xs i x → subtree_in (trees_of (map topology xs)) i a ≡ subtree (topology x) a
 child_at [] i x a l e = absurd (omega arith)

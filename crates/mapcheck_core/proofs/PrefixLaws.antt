@@ -1,12 +1,6 @@
 -- Prefixes by number, and the tests of addresses, leaves and prefixes.
-use Rattle.std.proofs.Common.{◌≡◌, ℕ, ◌+◌, ◌-◌, ◌<◌, ◌≤◌, true, ◌++◌, Option, Some, None, refl, sym, ap, ◌∙◌, subst, arith, leb, ltb}
-use Rattle.std.specs.Prelude.{is_some}
-use Rattle.std.proofs.lemmas.Bool.{leb-true, ltb-true, le-leb, lt-ltb, and_parts, and_from}
-use Rattle.tree_defs.specs.Tree.{leaf, inner, Address, subtree, nodes, IsAddressOf, LeadsToLeaf}
-use Rattle.tree_defs.specs.Topology.{Topology, IsBranched, after, IsPrefixOf}
-use Rattle.tree_defs.proofs.TopologyLaws.{leaf_at, leads_to, after-append, after-is}
-use Rattle.embed_defs.specs.Preorder.{number_of}
-use Rattle.mapcheck_core.specs.Numbers.{span_at, is_address, is_leaf, is_leaf_at}
+use Rattle.mapcheck_core.proofs.Prelude.{◌≡◌, sym, ℕ, subst, ◌∙◌, ap, refl, arith, None, ◌+◌, Some, ◌<◌, true, ◌≤◌, ◌++◌, Option, ltb, ◌-◌, leb, and_parts, lt-ltb, and_from, ltb-true, le-leb, leb-true, is_some, number_of, leaf_at, after-append, after-is, leads_to, Topology, IsBranched, IsPrefixOf, after, nodes, Address, inner, IsAddressOf, subtree, LeadsToLeaf, span_at, is_address, is_leaf, is_leaf_at}
+use Rattle.tree_defs.specs.Tree.{leaf}
 use Rattle.mapcheck_core.specs.Checks as check
 use Rattle.mapcheck_core.proofs.NumberLaws.{at_number, number_inside, one_address, span_is, part_branched, single_is_leaf, part_of_part, number_in_part}
 

@@ -1,16 +1,7 @@
 -- The written form of a tree reads as that tree, and nothing else reads as it.
-use Rattle.std.proofs.Common.{◌≡◌, ℕ, Bool, true, false, ◌&&◌, List, [], ◌∷◌, ◌++◌, Option, Some, None, if◌then◌else◌, sym, refl, ap, ◌∙◌, append_assoc, subst}
-use Rattle.std.specs.Prelude.{codes}
-use Rattle.std.specs.Str.{bytes_eq}
-use Rattle.std.proofs.lemmas.List.{append-nil}
-use Rattle.std.proofs.lemmas.Bool.{and_parts}
-use Rattle.std.proofs.lemmas.Slice.Eq.{bytes_eq-Decides}
+use Rattle.mapcheck_core.proofs.Prelude.{◌≡◌, sym, List, ℕ, subst, ◌∙◌, ap, [], refl, ◌∷◌, None, Some, false, true, ◌++◌, Option, Bool, append_assoc, if◌then◌else◌, ◌&&◌, and_parts, append-nil, bytes_eq-Decides, codes, bytes_eq, Glyph, text, figure, sign, Topology, IsBranched, AreBranched, inner, trees_of, more, none, Trees, read_on, may_stand, written, written_all}
 use Rattle.text_core.specs.declared.mark.Mark.TheVariants as m
-use Rattle.text_core.specs.Glyphs.{Glyph, text, figure, sign}
-use Rattle.tree_defs.specs.Tree.{leaf, inner, Trees, none, more, trees_of}
-use Rattle.tree_defs.specs.Topology.{Topology, IsBranched, AreBranched}
-use Rattle.mapcheck_core.specs.TreeTexts.{written, written_all}
-use Rattle.mapcheck_core.specs.TreeReading.{may_stand, read_on}
+use Rattle.tree_defs.specs.Tree.{leaf}
 use Rattle.mapcheck_core.proofs.TreeLists.{list_of, trees_of-list_of, written-push, branched-push}
 
 mutual

@@ -1,14 +1,7 @@
 -- The counts kept for the open nodes give the size of the tree that is read.
-use Rattle.std.proofs.Common.{◌≡◌, ℕ, suc, ◌+◌, ◌≤◌, max, nat_lt, nat_eq, Bool, true, false, not, ◌&&◌, ◌||◌, if◌then◌else◌, List, [], ◌∷◌, ◌++◌, length, Option, Some, None, option_map, sym, refl, ap, ◌∙◌, subst, arith}
-use Rattle.std.specs.Prelude.{codes}
-use Rattle.std.specs.Str.{bytes_eq}
-use Rattle.std.proofs.lemmas.Bool.{and_parts, lt-ltb, eqb-true, false_from_ne_true}
+use Rattle.mapcheck_core.proofs.Prelude.{◌≡◌, sym, List, ℕ, subst, ◌∙◌, ap, [], refl, arith, ◌∷◌, None, ◌+◌, Some, false, length, true, ◌≤◌, ◌++◌, Option, Bool, suc, option_map, if◌then◌else◌, ◌&&◌, max, not, ◌||◌, nat_eq, nat_lt, and_parts, lt-ltb, eqb-true, false_from_ne_true, codes, bytes_eq, Glyph, text, figure, sign, Topology, nodes, inner, trees_of, nodes_below, depth, option_bind, read_on, may_stand, measured, walk, closed, may_begin, opened, stands, when, whole, with_leaf, Nest}
 use Rattle.text_core.specs.declared.mark.Mark.TheVariants as m
-use Rattle.text_core.specs.Glyphs.{Glyph, text, figure, sign}
-use Rattle.tree_defs.specs.Tree.{leaf, inner, trees_of, nodes, nodes_below, depth, option_bind}
-use Rattle.tree_defs.specs.Topology.{Topology}
-use Rattle.mapcheck_core.specs.declared.nest.Nest.{Nest}
-use Rattle.mapcheck_core.specs.TreeReading.{may_begin, with_leaf, opened, closed, when, walk, whole, measured, stands, may_stand, read_on}
+use Rattle.tree_defs.specs.Tree.{leaf}
 use Rattle.mapcheck_core.proofs.TreeLists.{nodes-push, lowest, lowest-push, lowest-below}
 
 -- the state after one whole tree

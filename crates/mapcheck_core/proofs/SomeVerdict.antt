@@ -1,15 +1,8 @@
 -- A map without a verdict is impossible: no clause of an embedding is broken, or there is a first
 -- broken clause.
-use Rattle.std.proofs.Common.{◌≡◌, ℕ, zero, suc, ◌+◌, ◌<◌, ◌≤◌, false, [], ◌∷◌, Option, Some, None, ◌⊎◌, inl, inr, refl, sym, ◌∙◌, subst, arith, below_more}
-use Rattle.std.proofs.lemmas.Bool.{cases_Bool, cases_lt}
-use Rattle.tree_defs.specs.Tree.{Address, IsAddressOf, nodes}
-use Rattle.tree_defs.specs.Topology.{Topology}
-use Rattle.mapcheck_core.specs.declared.given.Given.{Given}
-use Rattle.mapcheck_core.specs.declared.fault.MapFault.{MapFault}
+use Rattle.mapcheck_core.proofs.Prelude.{◌≡◌, sym, ℕ, subst, ◌∙◌, [], refl, arith, ◌∷◌, None, inr, ◌+◌, Some, ◌<◌, false, ◌≤◌, inl, Option, ◌⊎◌, suc, zero, below_more, cases_Bool, cases_lt, Topology, nodes, Address, IsAddressOf, IsFirstBroken, IsFirstPair, is_broken, image_of, prefix, IsOutside, MissesLeaf, outside, root, HoldsNowhere, IsInside, IsLeastLine, KeepsLeaves, KeepsRoot, line_of, IsVerdict, span_at, MapFault, Given}
 use Rattle.mapcheck_core.specs.declared.fault.MapFault.TheVariants as fault
-use Rattle.mapcheck_core.specs.Numbers.{span_at}
-use Rattle.mapcheck_core.specs.GivenMaps.{image_of, line_of, IsOutside, MissesLeaf, HoldsNowhere, IsLeastLine, IsInside, KeepsRoot, KeepsLeaves, IsVerdict, outside, root, leaf, prefix}
-use Rattle.mapcheck_core.specs.Checks.{is_broken, IsFirstBroken, IsFirstPair}
+use Rattle.mapcheck_core.specs.GivenMaps.{leaf}
 use Rattle.mapcheck_core.proofs.MapLaws.{pair_found, all_kept, embeds}
 
 -- ---- the least line

@@ -1,14 +1,7 @@
 -- Reading a tree with a stack of lists. The last list has the trees around the open node.
-use Rattle.std.proofs.Common.{◌≡◌, ℕ, suc, ◌+◌, ◌<◌, Bool, true, false, ◌&&◌, List, [], ◌∷◌, ◌++◌, length, get_or, drop, Option, Some, None, if◌then◌else◌, sym, refl, ap, ◌∙◌, arith}
-use Rattle.std.specs.Prelude.{codes}
-use Rattle.std.specs.Str.{bytes_eq}
-use Rattle.std.proofs.Math.Seq.{drop-cons}
-use Rattle.text_core.specs.declared.item.Item.{Item}
+use Rattle.mapcheck_core.proofs.Prelude.{◌≡◌, sym, List, ℕ, ◌∙◌, ap, [], refl, arith, ◌∷◌, None, ◌+◌, Some, ◌<◌, false, length, true, ◌++◌, Option, get_or, Bool, drop, suc, if◌then◌else◌, ◌&&◌, drop-cons, codes, bytes_eq, glyphs_of, Glyph, text, figure, sign, glyph_of, Item, Topology, inner, trees_of, read_on, may_stand}
 use Rattle.text_core.specs.declared.mark.Mark.TheVariants as m
-use Rattle.text_core.specs.Glyphs.{Glyph, text, figure, sign, glyph_of, glyphs_of}
-use Rattle.tree_defs.specs.Tree.{leaf, inner, trees_of}
-use Rattle.tree_defs.specs.Topology.{Topology}
-use Rattle.mapcheck_core.specs.TreeReading.{may_stand, read_on}
+use Rattle.tree_defs.specs.Tree.{leaf}
 
 -- the lists of a stack, the last first, followed by the lists below it
 abbrev pub turned : List (List Topology) → List (List Topology) → List (List Topology)

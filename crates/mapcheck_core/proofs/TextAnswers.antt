@@ -1,20 +1,9 @@
 -- A text is a tree or has an error, and it has an answer as a map. A text without one is
 -- impossible.
-use Rattle.std.proofs.Common.{◌≡◌, ℕ, ◌+◌, ◌≤◌, List, [], ◌∷◌, ◌++◌, length, Result, inl, inr, sym, ◌∙◌, refl, subst, arith, append_assoc}
-use Rattle.std.proofs.lemmas.Bool.{cases_lt}
-use Rattle.std.proofs.lemmas.List.{append-nil, length-append}
-use Rattle.text_core.specs.Lines.{statements_of}
-use Rattle.tree_defs.specs.Tree.{nodes, depth, most_nodes, most_levels}
-use Rattle.tree_defs.specs.Topology.{Topology}
-use Rattle.mapcheck_core.specs.declared.given.Given.{Given}
-use Rattle.mapcheck_core.specs.declared.fault.MapFault.{MapFault}
-use Rattle.mapcheck_core.specs.declared.tree_fault.TreeFault.{TreeFault}
+use Rattle.mapcheck_core.proofs.Prelude.{◌≡◌, sym, List, ℕ, subst, ◌∙◌, [], refl, arith, ◌∷◌, inr, ◌+◌, length, ◌≤◌, inl, ◌++◌, Result, append_assoc, length-append, cases_lt, append-nil, statements_of, Topology, nodes, depth, most_levels, most_nodes, MapGives, MapLine, IsInNoForm, IsMapAnswer, most_map_bytes, Give, IsFirstAtFault, InNoForm, over, IsTreeFault, nothing, IsLarge, TreeGives, TreeLine, one_tree, tree, IsSmall, IsTreeLineFault, IsTreeText, at_line, large, most_tree_bytes, no_line, second, MapFault, Given, TreeFault}
 use Rattle.mapcheck_core.specs.declared.tree_fault.TreeFault.TheVariants as fault
-use Rattle.mapcheck_core.specs.NumberedLines.{Give, over, InNoForm, IsFirstAtFault}
-use Rattle.mapcheck_core.specs.MapLines.{MapLine, MapGives}
 use Rattle.mapcheck_core.specs.MapTexts as map
-use Rattle.mapcheck_core.specs.MapTexts.{most_map_bytes, IsInNoForm, IsMapAnswer}
-use Rattle.mapcheck_core.specs.TreeTexts.{most_tree_bytes, TreeLine, one_tree, TreeGives, nothing, tree, IsSmall, IsLarge, IsTreeText, IsTreeLineFault, no_form, second, IsTreeFault, too_long, at_line, no_line, large}
+use Rattle.mapcheck_core.specs.TreeTexts.{no_form, too_long}
 use Rattle.mapcheck_core.proofs.GiveLaws.{Give-push}
 
 -- ---- line by line

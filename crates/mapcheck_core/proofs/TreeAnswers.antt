@@ -1,15 +1,8 @@
 -- A text is only one tree, or has only one error.
-use Rattle.std.proofs.Common.{◌≡◌, ℕ, ◌≤◌, List, [], ◌∷◌, ◌++◌, length, Some, Result, Ok, Err, ◌⊎◌, inl, inr, sym, refl, ap, ◌∙◌, subst, arith, length-append}
-use Rattle.std.specs.Prelude.{MatchResult}
-use Rattle.text_core.specs.Glyphs.{Glyph}
-use Rattle.text_core.specs.Lines.{statements_of}
-use Rattle.text_core.proofs.SaysLaws.{Says-one}
-use Rattle.tree_defs.specs.Tree.{leaf, inner}
-use Rattle.tree_defs.specs.Topology.{Topology}
-use Rattle.mapcheck_core.specs.declared.tree_fault.TreeFault.{TreeFault}
+use Rattle.mapcheck_core.proofs.Prelude.{◌≡◌, sym, List, ℕ, subst, ◌∙◌, ap, [], refl, arith, ◌∷◌, inr, Some, length, ◌≤◌, inl, ◌++◌, ◌⊎◌, Err, Result, Ok, length-append, MatchResult, Says-one, Glyph, statements_of, Topology, inner, read_on, IsTreeFault, nothing, IsLarge, TreeGives, TreeLine, one_tree, tree, written, IsSmall, IsTreeLineFault, IsTreeText, at_line, large, most_tree_bytes, no_line, second, IsOnlyTree, TreeFault}
+use Rattle.tree_defs.specs.Tree.{leaf}
 use Rattle.mapcheck_core.specs.declared.tree_fault.TreeFault.TheVariants as fault
-use Rattle.mapcheck_core.specs.TreeTexts.{most_tree_bytes, written, TreeLine, one_tree, TreeGives, nothing, tree, IsSmall, IsLarge, IsOnlyTree, IsTreeText, IsTreeLineFault, no_form, second, IsTreeFault, too_long, at_line, no_line, large}
-use Rattle.mapcheck_core.specs.TreeReading.{read_on}
+use Rattle.mapcheck_core.specs.TreeTexts.{no_form, too_long}
 use Rattle.mapcheck_core.proofs.GiveLaws.{Give-one, Tells, IsFirstAtFault-one, Give-right}
 use Rattle.mapcheck_core.proofs.ReadLaws.{read-written}
 

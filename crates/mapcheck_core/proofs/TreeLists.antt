@@ -1,10 +1,5 @@
 -- One more tree in a list of trees.
-use Rattle.std.proofs.Common.{◌≡◌, ℕ, ◌+◌, List, [], ◌∷◌, ◌++◌, sym, refl, ap, ◌∙◌, arith, append_assoc, max}
-use Rattle.std.proofs.lemmas.List.{append-nil}
-use Rattle.text_core.specs.Glyphs.{Glyph}
-use Rattle.tree_defs.specs.Tree.{Trees, none, more, trees_of, nodes, nodes_below, depth, depth_below}
-use Rattle.tree_defs.specs.Topology.{Topology, IsBranched, AreBranched}
-use Rattle.mapcheck_core.specs.TreeTexts.{written, written_all}
+use Rattle.mapcheck_core.proofs.Prelude.{◌≡◌, sym, List, ℕ, ◌∙◌, ap, [], refl, arith, ◌∷◌, ◌+◌, ◌++◌, append_assoc, max, append-nil, Glyph, Topology, IsBranched, AreBranched, nodes, trees_of, more, nodes_below, none, Trees, depth, depth_below, written, written_all}
 
 -- the children in order
 abbrev pub list_of : Trees (Unit {0}) → List Topology

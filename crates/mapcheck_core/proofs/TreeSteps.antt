@@ -1,19 +1,9 @@
 -- The only tree of lines that are read one by one.
+use Rattle.mapcheck_core.proofs.Prelude.{◌≡◌, sym, List, ℕ, subst, ◌∙◌, ap, [], refl, map, arith, ◌∷◌, inr, ◌+◌, ◌<◌, false, length, true, ◌≤◌, inl, take, get_or, ◌⊎◌, Bool, ◌≢◌, take_all, statements_of, line_text, Line, topology, Topo, Topology, IsBranched, IsWithinLimits, Give, IsFirstAtFault, InNoForm, over, next, IsTreeFault, nothing, TreeGives, TreeLine, one_tree, tree, AreRead, IsTreeLineFault, IsTreeText, at_line, large, most_tree_bytes, no_line, second, AreReadLines, IsRead, TreeFault, Found}
 use Rattle.std.specs.Bool.{MatchBool}
-use Rattle.std.proofs.Common.{◌≡◌, ◌≢◌, ◌⊎◌, Bool, true, false, inl, inr, ℕ, ◌+◌, ◌<◌, ◌≤◌, List, [], ◌∷◌, length, get_or, take, map, sym, refl, ap, ◌∙◌, subst, arith}
-use Rattle.std.proofs.lemmas.List.{take_all}
-use Rattle.text_core.specs.declared.line.Line.{Line}
-use Rattle.text_core.specs.Lines.{line_text, statements_of}
-use Rattle.tree_defs.specs.Topology.{Topology, IsBranched}
-use Rattle.tree_core.specs.declared.topo.Topo.{Topo}
-use Rattle.tree_core.specs.Shape.{topology}
-use Rattle.mapcheck_core.specs.declared.tree_text.Found.{Found}
 use Rattle.mapcheck_core.specs.declared.tree_text.Found.TheVariants as found
-use Rattle.mapcheck_core.specs.declared.tree_fault.TreeFault.{TreeFault}
 use Rattle.mapcheck_core.specs.declared.tree_fault.TreeFault.TheVariants as fault
-use Rattle.mapcheck_core.specs.GivenMaps.{IsWithinLimits}
-use Rattle.mapcheck_core.specs.NumberedLines.{Give, over, next, InNoForm, IsFirstAtFault}
-use Rattle.mapcheck_core.specs.TreeTexts.{most_tree_bytes, TreeLine, one_tree, TreeGives, nothing, tree, IsTreeText, IsTreeLineFault, no_form, second, IsTreeFault, at_line, no_line, large, IsRead, AreRead, AreReadLines}
+use Rattle.mapcheck_core.specs.TreeTexts.{no_form}
 use Rattle.mapcheck_core.proofs.LineLaws.{lines_more, fault_here}
 
 -- an empty line

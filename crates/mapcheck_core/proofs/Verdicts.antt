@@ -1,10 +1,5 @@
 -- The answer that a verdict gives.
-use Rattle.std.proofs.Common.{◌≡◌, ◌↔◌, Ok, Err, Result, refl, ap, subst}
-use Rattle.tree_defs.specs.Topology.{Topology}
-use Rattle.embed_defs.specs.Embedding.{IsEmbedding}
-use Rattle.mapcheck_core.specs.declared.given.Given.{Given}
-use Rattle.mapcheck_core.specs.declared.fault.MapFault.{MapFault}
-use Rattle.mapcheck_core.specs.GivenMaps.{image_of, Breaks}
+use Rattle.mapcheck_core.proofs.Prelude.{◌≡◌, subst, ap, refl, Err, Result, Ok, ◌↔◌, IsEmbedding, Topology, image_of, Breaks, MapFault, Given}
 use Rattle.mapcheck_core.proofs.MapLaws.{breaks_none, breaks_one}
 
 abbrev Answer : Type 0

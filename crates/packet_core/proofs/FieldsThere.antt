@@ -1,7 +1,5 @@
 -- The fields of captured bytes whose headers are known.
-use Rattle.std.proofs.Common.{◌≡◌, ℕ, ◌+◌, true, false, Option, List, refl, ap, ◌∙◌}
-use Rattle.packet_defs.specs.declared.fields.Fields.{Fields}
-use Rattle.packet_defs.specs.Internet.{no_fields, is_ipv4, ipv4_fields, ipv4_at, is_ipv6, ipv6_fields, ipv6_at}
+use Rattle.packet_core.proofs.Prelude.{◌∙◌, ap, List, ℕ, ◌≡◌, refl, false, true, ◌+◌, Option, ipv4_at, ipv6_at, no_fields, ipv4_fields, ipv6_fields, is_ipv4, is_ipv6, Fields}
 use Rattle.packet_defs.specs.Ethernet.{tag_at, type_place, ether_type, carried_fields, ethernet_fields}
 use Rattle.packet_defs.specs.Headers.{fields_of}
 

@@ -1,15 +1,6 @@
 -- The first class that is met, from the conditions alone.
-use Rattle.std.proofs.Common.{◌≡◌, ◌<◌, ℕ, Bool, true, false, List, [], ◌∷◌, ◌++◌, Some, None, refl, sym, ap, ◌∙◌, map, length, position, arith}
-use Rattle.std.specs.List.{list_all, position_or_len}
+use Rattle.packet_core.proofs.Prelude.{◌∙◌, sym, ap, arith, length, map, List, ℕ, ◌≡◌, refl, false, position, true, ◌<◌, Bool, None, Some, [], ◌++◌, ◌∷◌, list_all-map, list_all, position_or_len, meets, class_of, Fields, HasCatchAll, Class, position-map, Condition, condition_of, conditions_of, meets_all}
 use Rattle.std.proofs.lemmas.Bool.{lt-ltb}
-use Rattle.std.proofs.lemmas.List.Folds.{list_all-map}
-use Rattle.packet_defs.specs.declared.fields.Fields.{Fields}
-use Rattle.packet_defs.specs.Condition.{meets, class_of}
-use Rattle.policy_text_defs.specs.declared.condition.Condition.{Condition}
-use Rattle.policy_rules.proofs.Texts.{position-map}
-use Rattle.policy_core.specs.declared.parts.Class.{Class}
-use Rattle.policy_core.specs.Parts.{HasCatchAll}
-use Rattle.packet_core.specs.Conditions.{condition_of, conditions_of, meets_all}
 
 pub class_of-classes : (fields : Fields) (n : ℕ) (classes : List Class)
     → position (λ c. meets_all fields n c.conditions) classes ≡ class_of (conditions_of (map (λ c. c.conditions) classes)) fields n

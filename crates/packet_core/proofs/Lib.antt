@@ -1,3 +1,4 @@
+pub mod Prelude
 pub mod FirstClass
 pub mod WithinBounds
 pub mod Prepare

@@ -1,15 +1,5 @@
 -- The prepared classes of a policy.
-use Rattle.std.proofs.Common.{◌≡◌, ◌≤◌, ℕ, List, map, take, length, position, sym, ap, ◌∙◌, subst}
-use Rattle.packet_defs.specs.declared.fields.Fields.{Fields}
-use Rattle.packet_defs.specs.Condition.{class_of}
-use Rattle.packet_defs.specs.Internet.{no_fields}
-use Rattle.std.proofs.lemmas.List.{length-map, take_all}
-use Rattle.policy_text_defs.specs.declared.condition.Condition.{Condition}
-use Rattle.policy_core.specs.declared.parts.Class.{Class}
-use Rattle.policy_core.specs.Parts.{HasCatchAll}
-use Rattle.packet_core.specs.Conditions.{conditions_of, meets_all}
-use Rattle.packet_core.specs.Numbers.{numbers_of, is_met}
-use Rattle.packet_core.specs.Classes.{AreSame, GivesEach}
+use Rattle.packet_core.proofs.Prelude.{◌∙◌, sym, ap, length, map, subst, List, ℕ, ◌≡◌, position, take, ◌≤◌, length-map, take_all, class_of, no_fields, Fields, HasCatchAll, Class, Condition, AreSame, GivesEach, conditions_of, meets_all, numbers_of, is_met}
 use Rattle.packet_core.specs.declared.prepared.Prepared.{Prepared}
 use Rattle.packet_core.proofs.FirstClass.{class_of-classes, some-class}
 use Rattle.packet_core.proofs.WithinBounds.{same-position}

@@ -1,17 +1,10 @@
 -- Bounds on the numbers of a packet agree with the conditions that they were prepared from.
-use Rattle.std.proofs.Common.{◌≡◌, ◌<◌, ◌≤◌, ℕ, ◌+◌, ◌-◌, ◌*◌, ◌/◌, ◌%◌, ◌^◌, Bool, true, false, ◌&&◌, leb, eqb, Option, None, Some, List, [], ◌∷◌, ◌++◌, refl, sym, ap, ◌∙◌, map, take, drop, length, get_or, min, position, arith, inl, inr, lit<}
-use Rattle.std.specs.List.{list_all}
+use Rattle.packet_core.proofs.Prelude.{◌∙◌, sym, ap, arith, length, map, List, ℕ, ◌≡◌, refl, false, position, take, true, ◌+◌, ◌<◌, Bool, None, Option, Some, [], ◌++◌, ◌∷◌, ◌≤◌, drop, eqb, get_or, inl, inr, leb, lit<, min, ◌%◌, ◌&&◌, ◌*◌, ◌-◌, ◌/◌, ◌^◌, map-append, map_more, list_all-map, list_all, meets, agree, Field, dport, dscp, in_range, is_present_and, len, proto, sport, vlan, Fields, position-map, numbers_of, absent, address, number, place}
 use Rattle.std.proofs.lemmas.Bool.{cases_order, cases_lt, eq-eqb, ne_eqb, le-leb, lt-leb, and_left, and_right}
 use Rattle.std.proofs.lemmas.Bool.Decides.{nat_tests}
 use Rattle.std.proofs.lemmas.Nat.{div-add-mod', mul-add-lt, shl_whole, one_shl, pow_pos, shr_le, shr_split}
-use Rattle.std.proofs.lemmas.List.{map_more, map-append}
-use Rattle.std.proofs.lemmas.List.Folds.{list_all-map}
 use Rattle.std.proofs.Math.Nat.{mod-lt, mul_comm, min-eq_left, min-eq_right, pow-le-pow_right}
 use Rattle.std.proofs.lemmas.List.Quantifiers.{position-Some}
-use Rattle.policy_rules.proofs.Texts.{position-map}
-use Rattle.packet_defs.specs.declared.fields.Fields.{Fields}
-use Rattle.packet_defs.specs.Condition.{Field, vlan, dscp, proto, sport, dport, len, in_range, agree, is_present_and, meets}
-use Rattle.packet_core.specs.Numbers.{absent, number, address, place, numbers_of}
 
 -- the number b is in block q of s numbers exactly if q is b / s
 pub within-block : (q s b : ℕ) → 0 < s → (leb (q * s) b && leb b (q * s + (s - 1))) ≡ eqb q (b / s)

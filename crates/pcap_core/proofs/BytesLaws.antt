@@ -1,11 +1,7 @@
 -- The written bytes spell the header and the records that they were written for.
-use Rattle.std.proofs.Common.{◌<◌, ◌%◌, ◌^◌, ℕ, false, None, List, [], ◌∷◌, ◌++◌, length, refl, sym, ap, ◌∙◌, arith, append_assoc, append-nil}
-use Rattle.std.specs.Prelude.{All}
+use Rattle.pcap_core.proofs.Prelude.{ap, arith, [], ◌<◌, ◌∙◌, List, None, sym, ℕ, ◌++◌, length, refl, append_assoc, false, append-nil, ◌∷◌, ◌%◌, ◌^◌, All, reads_captures, IsHeader, Record, IsSpelling, AreSpellings}
 use Rattle.std.proofs.lemmas.List.Elements.{All-head, All-tail}
 use Rattle.byteorder.specs.Numbers.{little_number-reads_back}
-use Rattle.pcap_defs.specs.Header.{IsHeader}
-use Rattle.pcap_defs.specs.Record.{Record, IsSpelling, AreSpellings}
-use Rattle.pcap_defs.proofs.ReadingLaws.{reads_captures}
 use Rattle.pcap_core.specs.Bytes.{long_bytes, header_bytes, record_bytes, records_bytes, file_bytes, head_with}
 use Rattle.pcap_core.specs.Laws.{IsWritable, AreCaptures, AreReadBack, RecordsFollow}
 

@@ -1,22 +1,10 @@
 -- The contents left after each result of a reader, in the terms shared by all capture formats.
-use Rattle.std.proofs.Common.{◌≡◌, ◌<◌, ◌+◌, ℕ, false, Option, Some, None, List, [], ◌∷◌, refl, sym, ap, ◌∙◌, subst}
-use Rattle.std.specs.Prelude.{IfSome, option_map, map}
-use Rattle.std.specs.Option.{option_map_or}
+use Rattle.pcap_core.proofs.Prelude.{◌≡◌, ap, [], ◌<◌, ◌∙◌, List, None, sym, ℕ, Option, Some, refl, ◌+◌, false, subst, ◌∷◌, option_map_or, IfSome, map, option_map, capture_of-fault, capture_of-header, records_left-fault, records_left-nothing, records_left-record, IsHeaderFault, capture_of, records_left, with_first, most_records, Record, IsRecordFault, moment, Head, IsFrameOf, head_read, contents_in, TakesHeader, TakesRecord, IsWhole, LeavesNothing, LinkedFrame}
 use Rattle.std.proofs.lemmas.Option.{IfSome_then}
-use Rattle.pcap_defs.specs.declared.head.Head.{Head}
-use Rattle.pcap_defs.specs.Header.{IsHeaderFault}
-use Rattle.pcap_defs.specs.Record.{Record, moment, IsRecordFault, most_records}
-use Rattle.pcap_defs.specs.Reading.{capture_of, records_left, with_first}
 use Rattle.pcap_defs.specs.Packet.{packet_with}
 use Rattle.pcap_defs.specs.Contents.{FaultAt, no_capture, fault_at, in_capture}
-use Rattle.pcap_defs.proofs.ReadingLaws.{capture_of-header, capture_of-fault, records_left-nothing, records_left-fault, records_left-record}
-use Rattle.pcap_core.specs.Rest.{IsWhole, LeavesNothing}
 use Rattle.pcap_core.specs.Captures.{packet_of, fault_told, Opens, Comes, IsOneLess, IsAt, LeavesNone}
-use Rattle.pcap_core.specs.declared.frame.LinkedFrame.{LinkedFrame}
 use Rattle.pcap_core.specs.Faults.{fault_in, read_error_as}
-use Rattle.pcap_core.specs.Frames.{IsFrameOf}
-use Rattle.pcap_core.specs.Left.{head_read, contents_in}
-use Rattle.pcap_core.specs.Pieces.{TakesHeader, TakesRecord}
 use Rattle.pcap_core.specs.declared.fault.CaptureFault.{CaptureFault}
 use Rattle.pcap_core.specs.declared.fault.CaptureFault.TheVariants.{HeaderCut, BadMagic, PcapNg, Version, RecordCut, DataCut, RecordLong, TooMany, ReadFault, NoMemory}
 

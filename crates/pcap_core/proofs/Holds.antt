@@ -1,13 +1,9 @@
 -- The bytes of a window after more bytes of the file were read.
-use Rattle.std.proofs.Common.{◌≡◌, ◌≤◌, ◌+◌, ◌-◌, ℕ, Option, Some, None, List, [], ◌++◌, length, take, drop, sym, ap, ◌∙◌, subst, arith, length-append, append_assoc}
-use Rattle.std.proofs.lemmas.List.{append-nil, drop-take, drop-append-le, take-append-le, length-take-le, length-drop, with_items_is}
+use Rattle.pcap_core.proofs.Prelude.{◌≡◌, ap, arith, [], ◌∙◌, List, None, sym, ℕ, ◌++◌, Option, Some, length, ◌+◌, ◌-◌, append_assoc, ◌≤◌, length-append, subst, take, drop, append-nil, length-drop, drop-append-le, drop-take, with_items_is, length-take-le, take-append-le, IfSome, EndsWhereEmpty, Takes, TakesFront, rest_of}
 use Rattle.std.proofs.Math.Seq.{take-append-add}
-use Rattle.std.specs.Prelude.{IfSome}
 use Rattle.std.specs.declared.vec.Vec.{Vec}
 use Rattle.std.specs.Vec.{with_items}
 use borrow.Rule.Slice.PartMut.{post_of}
-use Rattle.outside_core.specs.Files.{Takes, EndsWhereEmpty}
-use Rattle.pcap_core.specs.Rest.{rest_of, TakesFront}
 
 -- the buffer was overwritten from `end` on
 pub held-read : (xs buf post zs : List ℕ) (at end n : ℕ) → zs ≡ take end xs ++ (buf ++ post) → at ≤ end → end ≤ length xs → n ≤ length buf

@@ -1,3 +1,4 @@
+pub mod Prelude
 pub mod Records
 pub mod Readings
 pub mod CapturesLeft

@@ -1,14 +1,5 @@
 -- The results of a reader and the reading of the file, for the crates above.
-use Rattle.std.proofs.Common.{◌≡◌, ◌<◌, ◌+◌, ℕ, Bool, Option, Some, None, List, [], ◌++◌, refl, ap, ◌∙◌}
-use Rattle.std.specs.Prelude.{IfSome}
-use Rattle.pcap_defs.specs.declared.head.Head.{Head}
-use Rattle.pcap_defs.specs.Fault.{Fault}
-use Rattle.pcap_defs.specs.Header.{IsHeaderFault}
-use Rattle.pcap_defs.specs.Record.{Record, IsRecordFault, most_records}
-use Rattle.pcap_defs.specs.Reading.{packets, refused, records_left, with_first, capture_of}
-use Rattle.pcap_defs.proofs.ReadingLaws.{records_left-nothing, records_left-fault, records_left-record, capture_of-header, capture_of-fault}
-use Rattle.pcap_core.specs.Rest.{IsWhole}
-use Rattle.pcap_core.specs.Pieces.{TakesHeader, TakesRecord}
+use Rattle.pcap_core.proofs.Prelude.{◌≡◌, ap, [], ◌<◌, ◌∙◌, List, None, ℕ, ◌++◌, Option, Some, refl, ◌+◌, Bool, IfSome, capture_of-fault, capture_of-header, records_left-fault, records_left-nothing, records_left-record, Fault, IsHeaderFault, capture_of, records_left, with_first, packets, refused, most_records, Record, IsRecordFault, Head, TakesHeader, TakesRecord, IsWhole}
 
 -- if a header was read, the capture has its values and the records left after it
 pub capture-header : (head : Head) (old new : Option (List ℕ)) (file : List ℕ) → TakesHeader head old new → old ≡ Some file

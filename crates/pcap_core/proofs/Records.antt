@@ -1,22 +1,12 @@
 -- Facts about the remaining bytes, from the pieces taken from them.
-use Rattle.std.proofs.Common.{true, false, Ok, Err, ◌≡◌, ◌<◌, ◌≤◌, ◌+◌, ℕ, Bool, Option, Some, None, List, [], ◌++◌, length, take, IfSome, refl, sym, ap, ◌∙◌, subst, arith, append_assoc, length-append}
+use Rattle.pcap_core.proofs.Prelude.{◌≡◌, ap, arith, [], ◌<◌, ◌∙◌, List, None, sym, ℕ, ◌++◌, Option, Some, length, refl, ◌+◌, append_assoc, false, ◌≤◌, length-append, subst, take, Bool, Err, Ok, true, drop_at, length-take, take-append-drop, length-replicate, IfSome, Fault, bad_magic, data_cut, header_cut, pcap_ng, record_cut, record_long, too_many, version, IsHeaderFault, IsHeader, broken, found, front_of, most_records, Record, IsRecordFault, IsSpelling, captured_len, most_captured, record_len, Head, IsFrameOf, IsFrontFault, Passes, IsAll, TakesHeader, TakesRecord, TakesPreface, TakesFront, IsWhole, IsShort, LeavesNothing}
 use Rattle.std.proofs.Math.ListN.{replicate}
-use Rattle.std.proofs.lemmas.List.{drop_at, length-take, take-append-drop, length-replicate}
-use Rattle.pcap_defs.specs.declared.head.Head.{Head}
 use Rattle.pcap_defs.specs.Number.{long_at}
-use Rattle.pcap_defs.specs.Fault.{Fault, header_cut, bad_magic, pcap_ng, version, record_cut, data_cut, record_long, too_many}
-use Rattle.pcap_defs.specs.Header.{IsHeader, IsHeaderFault}
-use Rattle.pcap_defs.specs.Record.{Record, IsSpelling, IsRecordFault, captured_len, most_captured, most_records, record_len}
-use Rattle.pcap_defs.specs.Reading.{front_of, found, broken}
 use Rattle.pcap_defs.specs.Reading.{head_of as head_in_file}
 use Rattle.pcap_defs.proofs.Numbers.{number_at-append}
 use Rattle.pcap_defs.proofs.Headers.{head_of-header, head_of-fault}
 use Rattle.pcap_defs.proofs.FrontTests.{front_of-spelled, front_of-fault}
-use Rattle.pcap_core.specs.Rest.{TakesFront, IsWhole, LeavesNothing, IsShort}
-use Rattle.pcap_core.specs.Passed.{Passes, IsAll}
 use Rattle.pcap_core.specs.declared.record_header.RecordHeader.{RecordHeader}
-use Rattle.pcap_core.specs.Pieces.{TakesHeader, TakesPreface, TakesRecord}
-use Rattle.pcap_core.specs.Frames.{IsFrameOf, IsFrontFault}
 
 -- if nothing could be taken, nothing was left
 pub whole-none : (old : Option (List ℕ)) (most : ℕ) (front : List ℕ) → IsShort old front most → length front < most → front ≡ [] → IsWhole old

@@ -1,9 +1,5 @@
 -- Bytes taken from the remaining bytes, in one piece or in several.
-use Rattle.std.proofs.Common.{◌≡◌, ℕ, Option, Some, None, List, [], ◌++◌, length, drop, refl, sym, ap, ◌∙◌, subst, arith, length-append, append_assoc}
-use Rattle.std.proofs.lemmas.List.{drop_at}
-use Rattle.std.specs.Prelude.{IfSome}
-use Rattle.pcap_core.specs.Rest.{rest_of, TakesFront, IsShort}
-use Rattle.pcap_core.specs.Passed.{Passes}
+use Rattle.pcap_core.proofs.Prelude.{◌≡◌, ap, arith, [], ◌∙◌, List, None, sym, ℕ, ◌++◌, Option, Some, length, refl, append_assoc, length-append, subst, drop, drop_at, IfSome, Passes, TakesFront, rest_of, IsShort}
 
 -- taking bytes skips them
 pub passes-taken : (old new : Option (List ℕ)) (bytes : List ℕ) → TakesFront old new bytes → Passes (length bytes) old new

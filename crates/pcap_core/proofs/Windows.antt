@@ -1,9 +1,5 @@
 -- The remaining bytes don't change while bytes move from the file into a window and out of it.
-use Rattle.std.proofs.Common.{◌≡◌, ◌≤◌, ◌+◌, ◌-◌, ℕ, Option, Some, None, List, [], ◌++◌, length, take, drop, refl, sym, ap, ◌∙◌, arith, append_assoc, ◌<◌, min, length-drop, length-append}
-use Rattle.std.proofs.lemmas.List.{take-append-drop, length-take, drop-drop, drop-take, take-take, drop-append-le, nil_from_length}
-use Rattle.outside_core.specs.Files.{EndsWhereEmpty}
-use Rattle.pcap_core.specs.Rest.{rest_of, IsWhole, TakesFront}
-use Rattle.pcap_core.specs.Passed.{Passes}
+use Rattle.pcap_core.proofs.Prelude.{◌≡◌, ap, arith, [], ◌<◌, ◌∙◌, List, None, sym, ℕ, ◌++◌, Option, Some, length, refl, ◌+◌, ◌-◌, append_assoc, ◌≤◌, length-append, take, drop, length-drop, min, drop-append-le, drop-take, length-take, take-append-drop, drop-drop, nil_from_length, take-take, EndsWhereEmpty, Passes, TakesFront, rest_of, IsWhole}
 
 -- a window is empty after a read only if nothing was left
 pub fill-end : (left new : Option (List ℕ)) (held buf : List ℕ) (n : ℕ) → EndsWhereEmpty left n → n ≤ length buf → held ≡ [] → take (n - 0) buf ≡ [] → IsWhole (rest_of held left)

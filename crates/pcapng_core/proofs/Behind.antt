@@ -1,17 +1,6 @@
 -- The reading after a block's front, in terms of all bytes that were left at the front.
-use Rattle.std.proofs.Common.{◌≡◌, ◌≢◌, ◌≤◌, ◌+◌, ◌-◌, ℕ, Option, Some, None, List, ◌++◌, length, take, drop, IfSome, refl, sym, ap, ◌∙◌, arith}
-use Rattle.std.proofs.Math.Seq.{take-append_seam}
-use Rattle.pcap_defs.specs.Number.{long_at}
-use Rattle.pcap_defs.proofs.Numbers.{number_at-append}
-use Rattle.pcap_core.specs.Rest.{TakesFront}
-use Rattle.pcapng_defs.specs.declared.interface.Unit.{Unit}
-use Rattle.pcapng_defs.specs.Fault.{block_end}
-use Rattle.pcapng_defs.specs.Interface.{unit_of}
-use Rattle.pcapng_core.specs.Blocks.{HasRoom, ReadsTo, IsEndFault}
-use Rattle.pcapng_core.specs.Options.{IsUnitOf}
-use Rattle.pcap_core.specs.Passed.{Passes}
+use Rattle.pcapng_core.proofs.Prelude.{◌≡◌, ℕ, List, sym, ◌∙◌, ap, arith, length, ◌+◌, Option, Some, ◌≤◌, None, ◌-◌, IfSome, ◌++◌, drop, refl, take, ◌≢◌, take-append_seam, Passes, TakesFront, number_at-append, long_at, block_end, unit_of, Unit, HasRoom, IsEndFault, ReadsTo, IsUnitOf, Start}
 use Rattle.pcapng_core.specs.declared.start.Kind.TheVariants as kind
-use Rattle.pcapng_core.specs.declared.start.Start.{Start}
 
 -- a number read after n bytes were skipped is the number at position n
 number-behind : (s : Start) (n : ℕ) (left rest end others : List ℕ) → rest ≡ drop n left → rest ≡ end ++ others → length end ≡ 4 → long_at s.big n left ≡ long_at s.big 0 end

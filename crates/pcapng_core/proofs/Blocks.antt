@@ -1,13 +1,6 @@
 -- The block at the front of the remaining bytes, as a reader's steps find it.
-use Rattle.std.proofs.Common.{◌≡◌, ◌≢◌, ◌<◌, ◌≤◌, ◌+◌, ◌-◌, not, ℕ, eqb, List, length, take, drop, sym, ap, ◌∙◌, arith}
-use Rattle.std.proofs.lemmas.Bool.{lt-ltb, le-ltb, eq-eqb, ne_eqb, and_left, not_from_true, not_from_false, cond-true, cond-false}
-use Rattle.pcap_defs.specs.Number.{long_at}
-use Rattle.pcapng_defs.specs.Fault.{BlockFault, block_cut, block_length, order_magic, ng_version, no_interface, packet_length, interfaces, too_many_blocks, block_end}
-use Rattle.pcapng_defs.specs.Block.{Carried, block_gives}
-use Rattle.pcapng_defs.specs.NgCapture.{front_of, front_at, front_in, front_with, broken, fits_kind, block_len, most_blocks}
-use Rattle.pcapng_core.specs.Blocks.{IsStart, IsEndFault}
-use Rattle.pcapng_core.specs.Kinds.{kind_said}
-use Rattle.pcapng_core.specs.declared.start.Start.{Start}
+use Rattle.pcapng_core.proofs.Prelude.{◌≡◌, ℕ, List, sym, ◌∙◌, ap, arith, length, ◌+◌, ◌<◌, ◌≤◌, ◌-◌, drop, take, ◌≢◌, eqb, not, cond-true, lt-ltb, cond-false, eq-eqb, le-ltb, ne_eqb, and_left, not_from_false, not_from_true, long_at, Carried, block_gives, BlockFault, block_cut, block_end, interfaces, ng_version, packet_length, block_length, no_interface, order_magic, too_many_blocks, broken, block_len, fits_kind, front_with, most_blocks, front_at, front_in, IsStart, IsEndFault, kind_said, Start}
+use Rattle.pcapng_defs.specs.NgCapture.{front_of}
 
 front-begun : (c : Carried) (s : Start) (rest : List ℕ) → IsStart c s rest → front_of c rest ≡ front_at c s.big rest (kind_said s.kind) s.total
 unfolding front_of

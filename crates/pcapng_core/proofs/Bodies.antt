@@ -1,26 +1,7 @@
 -- The body of a block from its front, and the result of the whole block.
-use Rattle.std.proofs.Common.{◌≡◌, ◌≤◌, ◌+◌, ◌-◌, ◌*◌, ◌^◌, ◌&&◌, if◌then◌else◌, ℕ, Bool, true, false, eqb, leb, Option, Some, None, Result, Ok, Err, List, [], ◌∷◌, ◌++◌, length, take, drop, slice_get, refl, sym, ap, ◌∙◌, subst, arith, IfSome}
-use Rattle.std.specs.Prelude.{unwrap_or, IsSomeAnd}
+use Rattle.pcapng_core.proofs.Prelude.{◌≡◌, ℕ, List, sym, ◌∙◌, ap, arith, length, ◌+◌, Option, Some, subst, ◌≤◌, None, ◌-◌, IfSome, ◌++◌, drop, refl, take, Bool, [], eqb, true, false, ◌&&◌, Err, Ok, Result, if◌then◌else◌, leb, slice_get, ◌*◌, ◌^◌, ◌∷◌, IsSomeAnd, unwrap_or, long_at, short_at, CapturedPacket, most_captured, Carried, block_gives, most_interfaces, ng_major, enhanced_at, packet_at, past, simple_at, simple_len, BlockFault, interfaces, ng_version, packet_length, unit_of, moment_in, Interface, Unit, front_len, body_said, captured_in, enhanced_body, packet_body, packet_told, simple_body, went, fault_in, kind_said, Body, Packet, NgFault, Interfaces, NgVersion, PacketLength, Kind}
 use Rattle.std.specs.Option.{option_map}
-use Rattle.pcap_defs.specs.Number.{long_at, short_at}
-use Rattle.pcap_defs.specs.Record.{most_captured}
-use Rattle.pcapng_defs.specs.declared.interface.Interface.{Interface}
-use Rattle.pcapng_defs.specs.declared.interface.Unit.{Unit}
-use Rattle.pcapng_defs.specs.Fault.{BlockFault, ng_version, interfaces, packet_length}
-use Rattle.pcapng_defs.specs.Interface.{unit_of}
-use Rattle.pcapng_defs.specs.Moment.{moment_in}
-use Rattle.pcap_defs.specs.Packet.{CapturedPacket}
-use Rattle.pcapng_defs.specs.Block.{Carried, past, block_gives, ng_major, most_interfaces, packet_at, enhanced_at, simple_at, simple_len}
-use Rattle.pcapng_core.specs.Bodies.{packet_told, packet_body, enhanced_body, simple_body, body_said, captured_in, front_len}
-use Rattle.pcapng_core.specs.Carries.{went}
-use Rattle.pcapng_core.specs.Faults.{fault_in}
-use Rattle.pcapng_core.specs.Kinds.{kind_said}
-use Rattle.pcapng_core.specs.declared.fault.NgFault.{NgFault}
-use Rattle.pcapng_core.specs.declared.fault.NgFault.TheVariants.{NgVersion, Interfaces, PacketLength}
-use Rattle.pcapng_core.specs.declared.start.Kind.{Kind}
 use Rattle.pcapng_core.specs.declared.start.Kind.TheVariants as kind
-use Rattle.pcapng_core.specs.declared.body.Packet.{Packet}
-use Rattle.pcapng_core.specs.declared.body.Body.{Body}
 use Rattle.pcapng_core.specs.declared.body.Body.TheVariants as body
 
 -- a packet with its captured bytes, if there is one

@@ -1,23 +1,12 @@
 -- The contents left after each result of a reader, in the terms shared by all capture formats.
-use Rattle.std.proofs.Common.{◌≡◌, ◌≢◌, ℕ, true, false, Option, Some, None, List, [], ◌∷◌, refl, sym, ap, ◌∙◌, subst}
-use Rattle.std.specs.Prelude.{IfSome, IfNone, is_some, option_map}
+use Rattle.pcapng_core.proofs.Prelude.{◌≡◌, ℕ, List, sym, ◌∙◌, ap, Option, Some, subst, None, IfSome, refl, ◌≢◌, [], true, false, ◌∷◌, IfNone, is_some, LeavesNothing, CapturedPacket, reads_faults, goes_block_by_block, Carried, at_start, BlockFault, broken, front_of, Reading, at_front, behind, reading_of, ng_capture_of, fault_in, read_error_as, GoesOn, IsOver, TakesBlock, NgFault, Interfaces, NgVersion, PacketLength, BlockCut, BlockEnd, BlockLength, NoInterface, NoMemory, OrderMagic, ReadFault, TooManyBlocks}
+use Rattle.std.specs.Prelude.{option_map}
 use Rattle.std.proofs.lemmas.Option.{IfSome_then}
-use Rattle.pcap_defs.specs.Packet.{CapturedPacket}
 use Rattle.pcap_defs.specs.Contents.{FaultAt, no_capture}
-use Rattle.pcap_core.specs.Rest.{LeavesNothing}
 use Rattle.pcap_core.specs.declared.frame.LinkedFrame.{LinkedFrame}
 use Rattle.pcap_core.specs.Captures.{packet_of, fault_told, Opens, Comes, IsOneLess, IsAt, LeavesNone}
-use Rattle.pcapng_defs.specs.Fault.{BlockFault}
-use Rattle.pcapng_defs.specs.Block.{Carried, at_start}
-use Rattle.pcapng_defs.specs.NgCapture.{Reading, front_of, broken, reading_of, ng_capture_of, at_front, behind}
 use Rattle.pcapng_defs.specs.NgContents.{block_fault_at, contents_read, behind_front, in_ng_capture}
-use Rattle.pcapng_defs.proofs.Readings.{goes_block_by_block}
-use Rattle.pcapng_defs.proofs.FaultCauses.{reads_faults}
-use Rattle.pcapng_core.specs.Faults.{fault_in, read_error_as}
 use Rattle.pcapng_core.specs.Left.{contents_in}
-use Rattle.pcapng_core.specs.Readers.{TakesBlock, GoesOn, IsOver}
-use Rattle.pcapng_core.specs.declared.fault.NgFault.{NgFault}
-use Rattle.pcapng_core.specs.declared.fault.NgFault.TheVariants.{BlockCut, BlockLength, OrderMagic, NgVersion, NoInterface, PacketLength, Interfaces, TooManyBlocks, BlockEnd, ReadFault, NoMemory}
 
 -- a property of the fault that an error names, and of no fault, also holds after the conversion to
 -- a `ReadError`

@@ -1,25 +1,7 @@
 -- The block at the front of the remaining bytes, as it was read in pieces.
-use Rattle.std.proofs.Common.{◌≡◌, ◌<◌, ◌≤◌, ◌+◌, ◌-◌, ℕ, Option, Some, List, ◌++◌, length, take, drop, sym, ap, ◌∙◌, subst, arith, ⊎_elim}
-use Rattle.std.proofs.Math.Seq.{take-append-add}
-use Rattle.std.proofs.lemmas.List.{length-take-le, drop-take, take-take}
-use Rattle.std.proofs.lemmas.Bool.{cases_lt}
-use Rattle.pcap_defs.proofs.Numbers.{number_at-append}
-use Rattle.pcap_defs.specs.Number.{long_at, short_at}
-use Rattle.pcapng_defs.specs.declared.interface.Unit.{Unit}
-use Rattle.pcapng_defs.specs.Fault.{BlockFault}
-use Rattle.pcapng_defs.specs.Interface.{unit_of}
-use Rattle.pcapng_defs.specs.Block.{Carried, block_gives}
-use Rattle.pcapng_defs.specs.NgCapture.{front_of, front_with, broken, found}
-use Rattle.pcapng_core.specs.Blocks.{IsStart, HasRoom, IsReadTo}
-use Rattle.pcapng_core.specs.Bodies.{body_said, captured_in, front_len}
-use Rattle.pcapng_core.specs.Carries.{went}
-use Rattle.pcapng_core.specs.Faults.{fault_in}
-use Rattle.pcapng_core.specs.Kinds.{kind_said}
+use Rattle.pcapng_core.proofs.Prelude.{◌≡◌, ℕ, List, sym, ◌∙◌, ap, arith, length, ◌+◌, Option, Some, subst, ◌<◌, ◌≤◌, ◌-◌, ◌++◌, drop, take, ⊎_elim, take-append-add, cases_lt, length-take-le, drop-take, take-take, number_at-append, long_at, short_at, Carried, block_gives, BlockFault, unit_of, broken, front_of, front_with, found, Unit, IsStart, HasRoom, IsReadTo, front_len, body_said, captured_in, went, fault_in, kind_said, Packet, NgFault, Start}
 use Rattle.pcapng_core.specs.declared.body.Body.TheVariants as body
-use Rattle.pcapng_core.specs.declared.body.Packet.{Packet}
-use Rattle.pcapng_core.specs.declared.fault.NgFault.{NgFault}
 use Rattle.pcapng_core.specs.declared.start.Kind.TheVariants as kind
-use Rattle.pcapng_core.specs.declared.start.Start.{Start}
 use Rattle.pcapng_core.proofs.Blocks.{front-read}
 use Rattle.pcapng_core.proofs.Bodies.{Gives, told, block-gives, gives-went, gives-faulty}
 

@@ -1,21 +1,6 @@
 -- The block at the front after a reader's steps, if the remaining bytes are known to the contract.
-use Rattle.std.proofs.Common.{◌≡◌, ◌<◌, ◌+◌, ℕ, Option, Some, None, List, ◌++◌, length, IfSome, refl, sym, ap, ◌∙◌, subst, arith, append_assoc}
-use Rattle.pcap_core.specs.Rest.{rest_of, TakesFront}
-use Rattle.pcapng_defs.specs.declared.interface.Unit.{Unit}
-use Rattle.pcapng_defs.specs.Fault.{BlockFault, block_cut}
-use Rattle.pcapng_defs.specs.Block.{Carried}
-use Rattle.pcapng_defs.specs.NgCapture.{front_of, broken}
-use Rattle.pcapng_core.specs.Blocks.{IsStart, HasRoom, IsReadTo, ReadsTo, IsEndFault}
-use Rattle.pcapng_core.specs.Bodies.{body_said, captured_in, front_len}
-use Rattle.pcapng_core.specs.Carries.{went}
-use Rattle.pcapng_core.specs.Faults.{fault_in}
-use Rattle.pcapng_core.specs.Kinds.{kind_said}
-use Rattle.pcapng_core.specs.Readers.{TakesBlock}
-use Rattle.pcapng_core.specs.declared.body.Body.{Body}
+use Rattle.pcapng_core.proofs.Prelude.{◌≡◌, ℕ, List, sym, ◌∙◌, ap, arith, length, ◌+◌, Option, Some, subst, ◌<◌, None, IfSome, ◌++◌, refl, append_assoc, rest_of, TakesFront, Carried, BlockFault, block_cut, broken, front_of, Unit, IsStart, HasRoom, IsEndFault, IsReadTo, ReadsTo, front_len, body_said, captured_in, went, fault_in, kind_said, TakesBlock, Body, Packet, NgFault, Start}
 use Rattle.pcapng_core.specs.declared.body.Body.TheVariants as body
-use Rattle.pcapng_core.specs.declared.body.Packet.{Packet}
-use Rattle.pcapng_core.specs.declared.fault.NgFault.{NgFault}
-use Rattle.pcapng_core.specs.declared.start.Start.{Start}
 use Rattle.pcapng_core.proofs.Blocks.{front-cut, end-broken}
 use Rattle.pcapng_core.proofs.Bodies.{told}
 use Rattle.pcapng_core.proofs.Found.{found-block, found-faulty}

@@ -1,3 +1,4 @@
+pub mod Prelude
 pub mod OptionFronts
 pub mod OptionReads
 pub mod OptionSteps

@@ -1,12 +1,9 @@
 -- Timestamps in units of which a second has many.
-use Rattle.std.proofs.Common.{◌≡◌, ◌<◌, ◌≤◌, ◌*◌, ◌^◌, min, ℕ, sym, ap, arith, ⊎_elim}
+use Rattle.pcapng_core.proofs.Prelude.{◌≡◌, ℕ, sym, ap, arith, ◌<◌, ◌≤◌, ⊎_elim, ◌*◌, ◌^◌, min, cases_lt, moment_in, units_a_second, Unit}
 use Rattle.std.proofs.Math.Nat.{div-eq_of_lt, one-le-pow}
 use Rattle.std.proofs.lemmas.Nat.{pow_pos}
-use Rattle.std.proofs.lemmas.Bool.{cases_lt}
 use Rattle.rank_defs.specs.Programs.{max_rank}
-use Rattle.pcapng_defs.specs.declared.interface.Unit.{Unit}
 use Rattle.pcapng_defs.specs.declared.interface.Unit.TheVariants.{Decimal, Binary}
-use Rattle.pcapng_defs.specs.Moment.{units_a_second, moment_in}
 
 -- a second has at least one unit
 pub units-some : (unit : Unit) → 0 < units_a_second unit

@@ -1,10 +1,6 @@
 -- The first four bytes of an option.
-use Rattle.std.proofs.Common.{◌≡◌, ◌≢◌, ◌<◌, ◌≤◌, ◌+◌, ◌&&◌, if◌then◌else◌, ℕ, Bool, eqb, ltb, List, ◌++◌, length, drop, refl, sym, ap, ◌∙◌, arith, length-append}
-use Rattle.std.proofs.lemmas.Bool.{lt-ltb, le-ltb, eq-eqb, ne_eqb, and_from, and_parts, eqb-true, false_from_ne_true, cond-true, cond-false, cond_both}
-use Rattle.pcap_defs.specs.Number.{number_at, short_at}
-use Rattle.pcap_defs.proofs.Numbers.{number_at-append}
-use Rattle.pcapng_defs.specs.Interface.{OptionFront, ends, gives, passes, option_front, unit_by, filled, option_len, unit_code, unit_len}
-use Rattle.pcapng_core.specs.Options.{FrontOf}
+use Rattle.pcapng_core.proofs.Prelude.{◌≡◌, ℕ, List, sym, ◌∙◌, ap, arith, length, ◌+◌, ◌<◌, ◌≤◌, ◌++◌, drop, refl, Bool, ◌≢◌, eqb, length-append, ◌&&◌, if◌then◌else◌, ltb, cond-true, lt-ltb, and_parts, cond-false, cond_both, eq-eqb, eqb-true, le-ltb, ne_eqb, and_from, false_from_ne_true, number_at-append, short_at, number_at, option_len, ends, gives, passes, unit_by, OptionFront, filled, unit_code, unit_len, FrontOf}
+use Rattle.pcapng_defs.specs.Interface.{option_front}
 use Rattle.pcapng_core.specs.declared.options.Front.TheVariants as front
 
 -- the front of options with this code and length in their first four bytes, and `behind` bytes

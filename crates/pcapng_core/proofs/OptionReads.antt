@@ -1,17 +1,8 @@
 -- The option at the front of options, after a reader's steps.
-use Rattle.std.proofs.Common.{◌≡◌, ◌<◌, ◌≤◌, ◌+◌, ◌-◌, ℕ, Bool, true, false, Option, Some, None, List, ◌++◌, length, take, drop, get_or, sym, ap, ◌∙◌, subst, arith, length-append, get_or-drop, add-zero, ⊎_elim}
-use Rattle.std.proofs.Math.Seq.{take-append-add}
-use Rattle.std.proofs.lemmas.List.{length-take-le}
-use Rattle.std.proofs.lemmas.Bool.{cases_lt}
-use Rattle.pcap_defs.specs.Number.{number_at}
-use Rattle.pcap_defs.proofs.Numbers.{number_at-append}
-use Rattle.pcapng_defs.specs.Interface.{gives, passes, option_front, unit_by, option_len}
-use Rattle.pcap_core.specs.Rest.{TakesFront}
-use Rattle.pcapng_core.specs.Options.{front_said, FrontOf, StandsAt}
-use Rattle.pcap_core.specs.Passed.{Passes, IsAll}
+use Rattle.pcapng_core.proofs.Prelude.{◌≡◌, ℕ, List, sym, ◌∙◌, ap, arith, length, ◌+◌, Option, Some, subst, ◌<◌, ◌≤◌, None, ◌-◌, ◌++◌, drop, take, Bool, true, ⊎_elim, false, length-append, get_or, add-zero, get_or-drop, take-append-add, cases_lt, length-take-le, Passes, IsAll, TakesFront, number_at-append, number_at, option_len, gives, passes, unit_by, option_front, FrontOf, StandsAt, front_said, Gives, Ends}
 use Rattle.pcapng_core.specs.declared.options.Front.{Front}
 use Rattle.pcapng_core.specs.declared.options.Front.TheVariants as front
-use Rattle.pcapng_core.specs.declared.options.Step.TheVariants.{Ends, Gives, Passes as Behind}
+use Rattle.pcapng_core.specs.declared.options.Step.TheVariants.{Passes as Behind}
 
 -- skipping an equal number of bytes
 pub passes-as : (n m : ℕ) (old new : Option (List ℕ)) → n ≡ m → Passes n old new → Passes m old new

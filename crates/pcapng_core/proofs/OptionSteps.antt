@@ -1,13 +1,8 @@
 -- The reading of an interface's options, step by step.
-use Rattle.std.proofs.Common.{◌≡◌, ◌<◌, ◌≤◌, ◌+◌, ◌-◌, ℕ, Bool, Option, Some, None, List, length, take, drop, sym, ap, ◌∙◌, arith, length-drop, length-take}
-use Rattle.std.proofs.lemmas.List.{drop-take, length-take-le}
-use Rattle.std.proofs.lemmas.Bool.{lt-ltb, cond-true}
-use Rattle.pcapng_defs.specs.declared.interface.Unit.{Unit}
-use Rattle.pcapng_defs.specs.Interface.{usual_unit, ends, option_front, at_option, unit_of, option_len}
+use Rattle.pcapng_core.proofs.Prelude.{◌≡◌, ℕ, List, sym, ◌∙◌, ap, arith, length, ◌+◌, Option, Some, ◌<◌, ◌≤◌, None, ◌-◌, drop, take, Bool, length-drop, length-take, cond-true, lt-ltb, length-take-le, drop-take, Passes, unit_of, option_len, ends, at_option, usual_unit, Unit, IsUnitOf, StandsAt, SameUnit, Gives, Ends}
+use Rattle.pcapng_defs.specs.Interface.{option_front}
 use Rattle.pcapng_defs.proofs.OptionSteps.{units_go_option_by_option}
-use Rattle.pcap_core.specs.Passed.{Passes}
-use Rattle.pcapng_core.specs.Options.{StandsAt, IsUnitOf, SameUnit}
-use Rattle.pcapng_core.specs.declared.options.Step.TheVariants.{Ends, Gives, Passes as Behind}
+use Rattle.pcapng_core.specs.declared.options.Step.TheVariants.{Passes as Behind}
 
 -- after an option
 pub same-more : (big : Bool) (count rest behind : ℕ) (old mid new : Option (List ℕ)) → SameUnit big count rest old mid → behind ≤ rest → Passes (rest - behind) mid new → StandsAt big rest mid (Behind behind)

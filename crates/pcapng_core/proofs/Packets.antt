@@ -1,13 +1,5 @@
 -- The reading up to the next packet.
-use Rattle.std.proofs.Common.{◌≡◌, ◌≢◌, ℕ, Option, Some, None, List, [], IfSome, ap, ◌∙◌}
-use Rattle.pcap_core.specs.Rest.{IsWhole}
-use Rattle.pcapng_defs.specs.Fault.{BlockFault}
-use Rattle.pcap_defs.specs.Packet.{CapturedPacket}
-use Rattle.pcapng_defs.specs.Block.{Carried}
-use Rattle.pcapng_defs.specs.NgCapture.{Reading, front_of, broken, reading_of, at_front, behind, ended, packets_in}
-use Rattle.pcapng_defs.proofs.Readings.{goes_block_by_block}
-use Rattle.pcapng_defs.proofs.FaultCauses.{reads_faults}
-use Rattle.pcapng_core.specs.Readers.{TakesBlock, GoesOn, IsOver}
+use Rattle.pcapng_core.proofs.Prelude.{◌≡◌, ℕ, List, ◌∙◌, ap, Option, Some, None, IfSome, ◌≢◌, [], IsWhole, CapturedPacket, reads_faults, goes_block_by_block, Carried, BlockFault, broken, front_of, Reading, at_front, behind, reading_of, ended, packets_in, GoesOn, IsOver, TakesBlock}
 
 -- after one more block
 pub goes-more : (c mid_c after : Carried) (packet : Option CapturedPacket) (old mid new : Option (List ℕ)) → GoesOn c [] mid_c old mid → TakesBlock mid_c packet after mid new → GoesOn c (packets_in packet) after old new

@@ -1,19 +1,6 @@
 -- The room for captured bytes in a block, from its front.
-use Rattle.std.proofs.Common.{◌≡◌, ◌<◌, ◌≤◌, ◌+◌, ◌%◌, ◌&&◌, ℕ, Bool, true, eqb, leb, Option, Some, None, List, length, slice_get, refl, sym, ap, ◌∙◌, subst, arith}
-use Rattle.std.proofs.lemmas.Bool.{leb-true, eqb-true, and_parts, cond_both}
-use Rattle.pcap_defs.specs.Number.{long_at, short_at}
-use Rattle.pcap_defs.specs.Record.{most_captured}
-use Rattle.pcapng_defs.specs.declared.interface.Interface.{Interface}
-use Rattle.pcapng_defs.specs.Block.{Carried, BlockKind, least_total, most_total, ng_major, most_interfaces}
-use Rattle.pcapng_defs.specs.NgCapture.{fits_kind}
-use Rattle.pcapng_core.specs.Blocks.{HasRoom}
-use Rattle.pcapng_core.specs.Bodies.{packet_body, enhanced_body, simple_body, body_said, captured_in, front_len}
-use Rattle.pcapng_core.specs.Kinds.{kind_said}
-use Rattle.pcapng_core.specs.declared.body.Body.{Body}
-use Rattle.pcapng_core.specs.declared.body.Packet.{Packet}
-use Rattle.pcapng_core.specs.declared.start.Kind.{Kind}
+use Rattle.pcapng_core.proofs.Prelude.{◌≡◌, ℕ, List, sym, ◌∙◌, ap, arith, length, ◌+◌, Option, Some, subst, ◌<◌, ◌≤◌, None, refl, Bool, eqb, true, ◌&&◌, leb, slice_get, ◌%◌, and_parts, cond_both, eqb-true, leb-true, long_at, short_at, most_captured, Carried, most_interfaces, ng_major, BlockKind, least_total, most_total, fits_kind, Interface, HasRoom, front_len, body_said, captured_in, enhanced_body, packet_body, simple_body, kind_said, Body, Packet, Kind, Start}
 use Rattle.pcapng_core.specs.declared.start.Kind.TheVariants as kind
-use Rattle.pcapng_core.specs.declared.start.Start.{Start}
 
 -- a total length that a block can have is at least the least one
 pub fits-least : (kind : BlockKind) (total : ℕ) → fits_kind kind total ≡ true → least_total kind ≤ total

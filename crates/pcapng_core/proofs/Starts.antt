@@ -1,17 +1,7 @@
 -- The first twelve bytes of a block, in terms of all remaining bytes.
-use Rattle.std.proofs.Common.{◌≡◌, ◌<◌, ◌≤◌, ℕ, Option, Some, None, List, ◌++◌, length, IfSome, sym, ap, ◌∙◌, subst, arith, length-append, ⊎_elim}
-use Rattle.std.specs.Prelude.{IsSomeAnd}
-use Rattle.std.proofs.lemmas.Bool.{cases_lt}
-use Rattle.pcap_defs.proofs.Numbers.{number_at-append}
-use Rattle.pcap_core.specs.Rest.{TakesFront, IsShort}
-use Rattle.pcapng_defs.specs.Fault.{BlockFault, code}
-use Rattle.pcapng_defs.specs.Block.{Carried, kind_of}
-use Rattle.pcapng_defs.specs.NgCapture.{front_of, broken, block_len}
+use Rattle.pcapng_core.proofs.Prelude.{◌≡◌, ℕ, List, sym, ◌∙◌, ap, arith, length, Option, Some, subst, ◌<◌, ◌≤◌, None, IfSome, ◌++◌, ⊎_elim, length-append, cases_lt, IsSomeAnd, TakesFront, IsShort, number_at-append, reads_faults, Carried, kind_of, BlockFault, code, broken, front_of, block_len, IsStart, Start}
 use Rattle.pcapng_defs.specs.FaultCauses.{IsBlockFault}
-use Rattle.pcapng_defs.proofs.FaultCauses.{reads_faults}
 use Rattle.pcapng_defs.proofs.LongerFronts.{order_at-longer, faults_stand}
-use Rattle.pcapng_core.specs.Blocks.{IsStart}
-use Rattle.pcapng_core.specs.declared.start.Start.{Start}
 
 -- more bytes after those of a start change nothing
 start-longer : (c : Carried) (s : Start) (bytes more : List ℕ) → IsStart c s bytes → IsStart c s (bytes ++ more)

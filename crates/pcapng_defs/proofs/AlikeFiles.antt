@@ -1,11 +1,7 @@
 -- A classic and a pcapng file whose packets are equal.
-use Rattle.std.proofs.Common.{◌≡◌, ℕ, Some, None, List, refl, sym, ap, ◌∙◌}
+use Rattle.pcapng_defs.proofs.Prelude.{List, refl, ℕ, ◌≡◌, ap, ◌∙◌, None, Some, sym, at_start, AlikeFilesHoldTheSame, BlockFront, found, broken, nothing, Reading, at_front, front_of, reading_of, ng_capture_of, in_either, in_ng_capture, behind_front, block_fault_at, contents_read}
 use Rattle.std.specs.Prelude.{option_map}
 use Rattle.pcap_defs.specs.Contents.{holds}
-use Rattle.pcapng_defs.specs.Block.{at_start}
-use Rattle.pcapng_defs.specs.NgCapture.{BlockFront, nothing, broken, found, front_of, at_front, reading_of, ng_capture_of, Reading}
-use Rattle.pcapng_defs.specs.NgContents.{block_fault_at, contents_read, behind_front, in_ng_capture, in_either}
-use Rattle.pcapng_defs.specs.Laws.{AlikeFilesHoldTheSame}
 use Rattle.pcapng_defs.proofs.Readings.{goes_block_by_block}
 
 -- a file that is read without a fault is a capture

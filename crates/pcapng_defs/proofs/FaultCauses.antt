@@ -1,16 +1,6 @@
 -- Each fault is read exactly if the remaining bytes have it.
-use Rattle.std.proofs.Common.{◌≡◌, ◌≢◌, ◌⊎◌, inl, inr, ⊎_elim, ◌<◌, ◌≤◌, ◌+◌, ◌-◌, ◌&&◌, not, ℕ, Bool, true, false, eqb, ltb, leb, Option, Some, None, Result, Ok, Err, List, [], ◌++◌, length, take, drop, slice_get, refl, sym, ap, ◌∙◌, subst, arith}
-use Rattle.std.specs.Bool.{⊤}
-use Rattle.std.proofs.lemmas.List.{take-append-drop, length-take-le, nil_from_length}
-use Rattle.std.proofs.lemmas.Bool.{ltb-true, ltb-false, lt-ltb, leb-false, lt-leb, le-ltb, eqb-true, eqb-false, eq-eqb, ne_eqb, and_parts, and_cases, and_from, and_left, and_right, not-true, not-false, not_from_true, not_from_false, cond_both, cond-true, cond-false, false_from_ne_true, true≢false}
-use Rattle.pcap_defs.specs.Number.{long_at, short_at}
-use Rattle.pcap_defs.specs.Record.{most_captured}
-use Rattle.pcapng_defs.specs.declared.interface.Interface.{Interface}
-use Rattle.pcapng_defs.specs.Fault.{BlockFault, block_cut, block_length, order_magic, ng_version, no_interface, packet_length, interfaces, too_many_blocks, block_end, code}
-use Rattle.pcap_defs.specs.Packet.{CapturedPacket}
-use Rattle.pcapng_defs.specs.Block.{Carried, BlockKind, section, interface, enhanced, simple, other, kind_of, ng_major, most_interfaces, enhanced_at, simple_at, simple_len, block_gives}
-use Rattle.pcapng_defs.specs.NgCapture.{BlockFront, nothing, broken, found, front_of, front_at, front_in, front_with, order_at, fits_kind, block_len, most_blocks}
-use Rattle.pcapng_defs.specs.WholeBlock.{IsWholeBlock}
+use Rattle.pcapng_defs.proofs.Prelude.{List, refl, ℕ, ◌≡◌, ap, arith, length, ◌∙◌, ◌≤◌, Bool, None, Some, sym, ◌+◌, Option, [], eqb, ltb, subst, true, ◌&&◌, ◌++◌, ◌<◌, Err, Ok, Result, drop, leb, not, take, ◌-◌, ◌≢◌, false, slice_get, ⊎_elim, inl, inr, ◌⊎◌, cond_both, ltb-false, eqb-false, not-false, and_left, and_parts, cond-false, cond-true, eqb-true, le-ltb, ne_eqb, and_cases, and_from, and_right, eq-eqb, leb-false, lt-ltb, not_from_true, false_from_ne_true, lt-leb, ltb-true, not-true, not_from_false, true≢false, length-take-le, nil_from_length, take-append-drop, ⊤, long_at, short_at, CapturedPacket, most_captured, Carried, BlockKind, block_gives, kind_of, enhanced, enhanced_at, interface, most_interfaces, ng_major, other, section, simple, simple_at, simple_len, BlockFault, block_cut, block_end, code, block_length, interfaces, ng_version, no_interface, order_magic, packet_length, too_many_blocks, BlockFront, found, broken, most_blocks, nothing, block_len, fits_kind, front_at, front_in, front_with, order_at, IsWholeBlock, Interface}
+use Rattle.pcapng_defs.specs.NgCapture.{front_of}
 use Rattle.pcapng_defs.specs.FaultCauses.{IsTooLong, IsBodyFault, IsBegun, HasLength, IsCutFront, HasBadBody, IsBlockFault, ReadsFaults}
 use Rattle.pcapng_defs.proofs.Fronts.{fits_kind-some}
 use Rattle.pcapng_defs.proofs.LongerFronts.{order_at-longer, faults_stand}

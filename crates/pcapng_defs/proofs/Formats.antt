@@ -1,14 +1,10 @@
 -- The bytes at the front of a file determine its format.
-use Rattle.std.proofs.Common.{◌≡◌, ◌<◌, ◌≤◌, ℕ, Bool, true, false, leb, List, [], ◌++◌, length, refl, sym, ap, ◌∙◌, subst, arith, length-append}
-use Rattle.std.proofs.lemmas.Bool.{leb-true, leb-false}
-use Rattle.std.proofs.lemmas.List.{append-nil, take-append-le}
+use Rattle.pcapng_defs.proofs.Prelude.{List, refl, ℕ, ◌≡◌, ap, arith, length, ◌∙◌, ◌≤◌, Bool, sym, [], subst, true, ◌++◌, ◌<◌, leb, false, length-append, leb-true, leb-false, take-append-le, append-nil, FrontsTellFormats, IsHeaderFront, in_either, in_ng_capture}
 use Rattle.pcap_defs.specs.Fault.{header_cut, bad_magic, pcap_ng, version, record_cut, data_cut, record_long, too_many}
 use Rattle.pcap_defs.specs.Header.{header_len, IsHeaderFault}
 use Rattle.pcap_defs.specs.Reading.{Capture, refused, packets, capture_of}
 use Rattle.pcap_defs.specs.Contents.{FileContents, in_capture}
 use Rattle.pcap_defs.proofs.ReadingLaws.{reads_refusals}
-use Rattle.pcapng_defs.specs.NgContents.{in_either, in_ng_capture}
-use Rattle.pcapng_defs.specs.Laws.{FrontsTellFormats, IsHeaderFront}
 
 whole-newer : (front rest : List ℕ) → IsHeaderFault front pcap_ng → IsHeaderFault (front ++ rest) pcap_ng
 whole-newer front rest h =

@@ -1,18 +1,7 @@
 -- The front of the remaining bytes, in every case.
-use Rattle.std.proofs.Common.{◌≡◌, ◌≢◌, ◌<◌, ◌≤◌, ◌+◌, ◌-◌, ◌*◌, ◌/◌, ◌%◌, ◌^◌, ◌&&◌, not, min, ℕ, Bool, true, eqb, ltb, leb, Option, Some, None, Result, Ok, Err, List, [], length, take, drop, slice_get, refl, arith, length-drop, length-take}
-use Rattle.std.specs.List.{AllByRecursion}
-use Rattle.std.proofs.lemmas.List.{nil_from_length}
-use Rattle.std.proofs.lemmas.Bool.{ltb-false, leb-true, eqb-true, eqb-false, and_parts, not-false, cond_both}
-use Rattle.pcap_defs.specs.Number.{long_at, short_at}
-use Rattle.pcap_defs.specs.Record.{most_captured}
-use Rattle.pcapng_defs.specs.declared.interface.Interface.{Interface}
-use Rattle.pcapng_defs.specs.Fault.{BlockFault, code, place}
-use Rattle.rank_defs.specs.Programs.{max_rank}
+use Rattle.pcapng_defs.proofs.Prelude.{List, refl, ℕ, ◌≡◌, arith, length, ◌≤◌, Bool, None, Some, ◌+◌, Option, [], eqb, ltb, true, ◌&&◌, ◌<◌, Err, Ok, Result, drop, leb, not, take, ◌-◌, ◌≢◌, length-drop, slice_get, ◌%◌, length-take, min, ◌*◌, ◌/◌, ◌^◌, cond_both, ltb-false, eqb-false, not-false, and_parts, eqb-true, leb-true, nil_from_length, AllByRecursion, long_at, short_at, CapturedPacket, most_captured, max_rank, Carried, BlockKind, block_gives, kind_of, enhanced, enhanced_at, interface, least_total, most_interfaces, most_total, ng_major, other, section, simple, simple_at, simple_len, packet_at, BlockFault, code, place, IsBounded, BlockFront, found, broken, most_blocks, nothing, block_len, fits_kind, front_at, front_in, front_with, order_at, packets_in, Interface}
 use Rattle.pcapng_defs.specs.Moment.{moment_in, units_a_second}
-use Rattle.pcap_defs.specs.Packet.{CapturedPacket}
-use Rattle.pcapng_defs.specs.Block.{Carried, BlockKind, section, interface, enhanced, simple, other, kind_of, least_total, most_total, ng_major, most_interfaces, packet_at, enhanced_at, simple_at, simple_len, block_gives}
-use Rattle.pcapng_defs.specs.NgCapture.{BlockFront, nothing, broken, found, front_of, front_at, front_in, front_with, order_at, fits_kind, block_len, most_blocks, packets_in}
-use Rattle.pcapng_defs.specs.Laws.{IsBounded}
+use Rattle.pcapng_defs.specs.NgCapture.{front_of}
 
 -- the fault has a code of 11 to 19 and is that of the next block
 pub record IsNextFault (c : Carried) (fault : BlockFault) : Type 0 where

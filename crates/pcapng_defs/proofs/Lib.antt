@@ -1,3 +1,4 @@
+pub mod Prelude
 pub mod Fronts
 pub mod LongerFronts
 pub mod WholeBlocks

@@ -1,15 +1,6 @@
 -- The front stays the same whatever bytes follow, except for the end of a file and a cut block.
-use Rattle.std.proofs.Common.{◌≡◌, ◌≢◌, ◌≤◌, ◌+◌, ◌-◌, ◌==◌, ◌&&◌, not, if◌then◌else◌, ℕ, Bool, true, false, eqb, ltb, Option, Some, None, Result, Ok, Err, List, ◌++◌, length, take, drop, refl, ap, ◌∙◌, subst, arith, length-append, ⊎_elim}
-use Rattle.std.specs.Bool.{⊤}
-use Rattle.std.proofs.lemmas.List.{take-append-le, drop-append-le}
-use Rattle.std.proofs.lemmas.Bool.{ltb-false, le-ltb, eqb-false, ne_eqb, and_cases, and_left, and_right, not-false, cond_both, cond-true, cond-false}
-use Rattle.pcap_defs.specs.Number.{long_at}
-use Rattle.pcap_defs.proofs.Numbers.{number_at-append}
-use Rattle.pcapng_defs.specs.Fault.{BlockFault, block_cut, block_end}
-use Rattle.pcap_defs.specs.Packet.{CapturedPacket}
-use Rattle.pcapng_defs.specs.Block.{Carried, BlockKind, kind_of, section_type, block_gives}
-use Rattle.pcapng_defs.specs.NgCapture.{BlockFront, nothing, broken, found, front_of, front_at, front_in, front_with, order_in, order_at, order_number, fits_kind, block_len, most_blocks}
-use Rattle.pcapng_defs.specs.Laws.{BlocksStand, FaultsStand}
+use Rattle.pcapng_defs.proofs.Prelude.{List, refl, ℕ, ◌≡◌, ap, arith, length, ◌∙◌, ◌≤◌, Bool, None, Some, ◌+◌, Option, eqb, ltb, subst, true, ◌&&◌, ◌++◌, Err, Ok, Result, drop, not, take, ◌-◌, ◌≢◌, false, length-append, ⊎_elim, if◌then◌else◌, ◌==◌, cond_both, ltb-false, eqb-false, not-false, and_left, cond-false, cond-true, le-ltb, ne_eqb, and_cases, and_right, take-append-le, drop-append-le, ⊤, number_at-append, long_at, CapturedPacket, Carried, BlockKind, block_gives, kind_of, section_type, BlockFault, block_cut, block_end, BlocksStand, FaultsStand, BlockFront, found, broken, most_blocks, nothing, block_len, fits_kind, front_at, front_in, front_with, order_at, order_in, order_number}
+use Rattle.pcapng_defs.specs.NgCapture.{front_of}
 use Rattle.pcapng_defs.proofs.Fronts.{fits_kind-some}
 
 -- this is also the front of the bytes with more bytes after them

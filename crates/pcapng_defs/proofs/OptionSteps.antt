@@ -1,9 +1,5 @@
 -- The unit that options give, read option by option.
-use Rattle.std.proofs.Common.{◌≡◌, ◌<◌, ◌≤◌, ◌+◌, ◌&&◌, ℕ, zero, suc, Bool, eqb, ltb, List, length, refl, sym, ap, ◌∙◌, arith, length-drop}
-use Rattle.std.specs.Bool.{⊤}
-use Rattle.std.proofs.lemmas.Bool.{ltb-false, lt-ltb, cond_both, cond-true}
-use Rattle.pcap_defs.specs.Number.{short_at}
-use Rattle.pcapng_defs.specs.Laws.{UnitsGoOptionByOption}
+use Rattle.pcapng_defs.proofs.Prelude.{List, refl, ℕ, ◌≡◌, ap, arith, length, ◌∙◌, ◌≤◌, Bool, sym, ◌+◌, eqb, ltb, ◌&&◌, ◌<◌, length-drop, suc, zero, cond_both, ltb-false, cond-true, lt-ltb, ⊤, short_at, UnitsGoOptionByOption}
 use Rattle.pcapng_defs.specs.Interface.{usual_unit, OptionFront, ends, gives, passes, option_front, at_option, unit_from, unit_of, filled, option_len, unit_code, unit_len}
 
 -- fewer bytes are left after an option

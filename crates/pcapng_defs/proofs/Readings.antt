@@ -1,14 +1,7 @@
 -- A file is read block by block, and goes on after whole blocks.
-use Rattle.std.proofs.Common.{◌≡◌, ◌<◌, ◌≤◌, ◌+◌, ℕ, zero, suc, Option, Some, None, List, [], ◌∷◌, ◌++◌, length, refl, sym, ap, ◌∙◌, subst, arith, append_assoc, MatchOption}
+use Rattle.pcapng_defs.proofs.Prelude.{List, refl, ℕ, ◌≡◌, ap, arith, length, ◌∙◌, ◌≤◌, None, Some, sym, ◌+◌, Option, [], subst, ◌++◌, ◌<◌, suc, zero, MatchOption, append_assoc, ◌∷◌, ⊤, AllByRecursion, CapturedPacket, max_rank, Carried, at_start, BlockFault, IsBounded, FaultsAreNumbered, GoesBlockByBlock, GoesOnBehindBlocks, IsNumbered, PacketsAreBounded, PacketsAreFew, BlockFront, found, broken, most_blocks, nothing, Reading, at_front, front_of, packets_in, reading_of, behind}
 use Rattle.std.specs.Prelude.{unwrap_or}
-use Rattle.std.specs.Bool.{⊤}
-use Rattle.std.specs.List.{AllByRecursion}
-use Rattle.pcapng_defs.specs.Fault.{BlockFault}
-use Rattle.rank_defs.specs.Programs.{max_rank}
-use Rattle.pcap_defs.specs.Packet.{CapturedPacket}
-use Rattle.pcapng_defs.specs.Block.{Carried, at_start}
-use Rattle.pcapng_defs.specs.NgCapture.{BlockFront, nothing, broken, found, front_of, most_blocks, Reading, behind, packets_in, at_front, read_from, reading_of}
-use Rattle.pcapng_defs.specs.Laws.{IsBounded, IsNumbered, GoesBlockByBlock, GoesOnBehindBlocks, FaultsAreNumbered, PacketsAreBounded, PacketsAreFew}
+use Rattle.pcapng_defs.specs.NgCapture.{read_from}
 use Rattle.pcapng_defs.proofs.Fronts.{Says, front_of-says}
 use Rattle.pcapng_defs.proofs.LongerFronts.{Stands, front_of-stands}
 

@@ -1,15 +1,6 @@
 -- A block is found exactly if the remaining bytes begin with one.
-use Rattle.std.proofs.Common.{◌≡◌, ◌≢◌, ◌≤◌, ◌+◌, ◌-◌, ◌%◌, ◌&&◌, not, ℕ, Bool, true, eqb, ltb, leb, Option, Some, None, Result, Ok, Err, List, [], ◌++◌, length, take, drop, refl, sym, ap, ◌∙◌, subst, arith}
-use Rattle.std.specs.Bool.{⊤}
-use Rattle.std.proofs.lemmas.List.{take-append-drop, length-take-le, take_all, drop_all}
-use Rattle.std.proofs.lemmas.Bool.{ltb-false, leb-true, le-leb, le-ltb, eqb-true, eqb-false, eq-eqb, ne_eqb, and_parts, and_from, and_left, not-false, not_from_true, cond_both, cond-false}
-use Rattle.pcap_defs.specs.Number.{long_at}
-use Rattle.pcap_defs.proofs.Numbers.{number_at-append}
-use Rattle.pcapng_defs.specs.Fault.{BlockFault}
-use Rattle.pcap_defs.specs.Packet.{CapturedPacket}
-use Rattle.pcapng_defs.specs.Block.{Carried, BlockKind, kind_of, least_total, most_total, block_gives}
-use Rattle.pcapng_defs.specs.NgCapture.{BlockFront, found, front_of, front_at, front_in, front_with, order_at, fits_kind, block_len, most_blocks}
-use Rattle.pcapng_defs.specs.WholeBlock.{IsWholeBlock, IsBlock, ReadsBlocks}
+use Rattle.pcapng_defs.proofs.Prelude.{List, refl, ℕ, ◌≡◌, ap, arith, length, ◌∙◌, ◌≤◌, Bool, None, Some, sym, ◌+◌, Option, [], eqb, ltb, subst, true, ◌&&◌, ◌++◌, Err, Ok, Result, drop, leb, not, take, ◌-◌, ◌≢◌, ◌%◌, cond_both, ltb-false, eqb-false, not-false, and_left, and_parts, cond-false, eqb-true, le-ltb, leb-true, ne_eqb, and_from, eq-eqb, not_from_true, le-leb, length-take-le, take-append-drop, drop_all, take_all, ⊤, number_at-append, long_at, CapturedPacket, Carried, BlockKind, block_gives, kind_of, least_total, most_total, BlockFault, BlockFront, found, most_blocks, block_len, fits_kind, front_at, front_in, front_with, order_at, IsWholeBlock, IsBlock, ReadsBlocks}
+use Rattle.pcapng_defs.specs.NgCapture.{front_of}
 use Rattle.pcapng_defs.proofs.Fronts.{least_total-some, fits_kind-some}
 use Rattle.pcapng_defs.proofs.LongerFronts.{order_at-longer, blocks_stand}
 

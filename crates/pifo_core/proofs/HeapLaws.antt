@@ -1,21 +1,11 @@
 -- A queue in a run and a heap: after a push, and after a pop.
-use Rattle.std.proofs.Common.{◌≡◌, ◌<◌, ◌≤◌, ◌+◌, inl, inr, ℕ, true, false, List, [], ◌∷◌, ◌++◌, map, length, suc, Some, refl, sym, ap, ◌∙◌, arith, get_or, zero, subst}
-use Rattle.std.specs.List.{AllByRecursion, IsDistinct}
-use Rattle.std.specs.List.Sorted.{IsPermutation}
+use Rattle.pifo_core.proofs.Prelude.{arith, ◌≡◌, ap, ◌∙◌, false, length, ◌<◌, ◌≤◌, [], refl, sym, true, Some, map, ◌∷◌, List, get_or, suc, zero, ℕ, ◌+◌, inl, inr, ◌++◌, subst, eq-or-lt_of_le, nat_tests, All-from_recursion, recursion_from_All, IsDistinct-IsPermutation, AllByRecursion, IsPermutation, Reverse, put, take_least, held_of_both, IsHeaped, TopIsFirst, arrived_together, leads, heap_order, held_of, leaving_order, queue_of, ArrivedBefore, InLeavingOrder, Leaves, wide, Held}
+use Rattle.std.specs.List.{IsDistinct}
 use Rattle.std.specs.Ordering.{is_lt}
 use Rattle.std.specs.BinaryHeap.{IsHeap, IsUpperBound}
-use Rattle.std.specs.declared.cmp.Reverse.{Reverse}
-use Rattle.std.proofs.lemmas.Bool.Decides.{nat_tests}
 use Rattle.std.proofs.lemmas.List.{append-nil, map-append, length-append}
 use Rattle.std.proofs.lemmas.List.Sorted.{IsPermutation-refl, IsPermutation-sym, IsPermutation-trans, IsPermutation-middle, IsPermutation-append_right, IsPermutation-map, All-permutation}
-use Rattle.std.proofs.lemmas.List.Elements.{All-from_recursion, recursion_from_All}
-use Rattle.std.proofs.lemmas.Map.Keys.{IsDistinct-IsPermutation}
-use Rattle.std.proofs.Math.Nat.{eq-or-lt_of_le}
-use Rattle.tree_defs.specs.Queue.{put, take_least}
-use Rattle.pifo_core.specs.declared.held.Held.{Held}
 use Rattle.pifo_core.specs.declared.held.Brief.{Brief}
-use Rattle.pifo_core.specs.Held.{wide, queue_of, Leaves, InLeavingOrder, ArrivedBefore}
-use Rattle.pifo_core.specs.Heaped.{held_of, held_of_both, leaving_order, heap_order, arrived_together, TopIsFirst, leads, IsHeaped}
 use Rattle.pifo_core.proofs.HeldLaws.{taking, All-weaker, All-append, All-front, All-back, leave_before, InLeavingOrder-insert, queue_of-empty, queue_of-insert, queue_of-first, length-queue_of}
 use Rattle.pifo_core.proofs.Exchanges.{queue_of-IsPermutation}
 

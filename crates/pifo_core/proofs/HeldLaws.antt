@@ -1,14 +1,8 @@
 -- The abstract queue of the queued entries: after a push, and after a pop.
-use Rattle.std.proofs.Common.{zero, suc, ◌≡◌, ◌≢◌, ◌<◌, ◌≤◌, ◌+◌, inl, inr, ℕ, Bool, true, false, cond, List, [], ◌∷◌, ◌++◌, map, length, Some, refl, sym, ap, ◌∙◌, arith, nat_lt, take, drop, get_or, insert, remove}
+use Rattle.pifo_core.proofs.Prelude.{arith, ◌≡◌, ap, ◌∙◌, false, length, ◌<◌, ◌≤◌, [], refl, sym, true, Some, map, ◌∷◌, List, get_or, suc, zero, ℕ, ◌+◌, inl, inr, insert, remove, ◌++◌, ◌≢◌, Bool, cond, drop, nat_lt, take, eq-or-lt_of_le, nat_tests, All-from_recursion, AllByRecursion, AllWithin, put, take_least, Queue, Taking, ArrivedBefore, InLeavingOrder, Leaves, in_arrival_order, pair, placed, Held}
 use Rattle.std.proofs.lemmas.List.{take-append-drop}
-use Rattle.std.proofs.Math.Nat.{eq-or-lt_of_le}
-use Rattle.std.specs.List.{AllByRecursion, AllWithin}
-use Rattle.std.proofs.lemmas.List.Elements.{All-from_recursion}
-use Rattle.std.proofs.lemmas.Bool.Decides.{nat_tests}
-use Rattle.tree_defs.specs.Queue.{Queue, Taking, put, take_least}
 use Rattle.tree_defs.proofs.TakeLeast.{AllAbove, AllFrom, take_least-split}
-use Rattle.pifo_core.specs.declared.held.Held.{Held}
-use Rattle.pifo_core.specs.Held.{placed, in_arrival_order, pair, queue_of, Leaves, InLeavingOrder, ArrivedBefore}
+use Rattle.pifo_core.specs.Held.{queue_of}
 use Rattle.pifo_core.specs.Sorted.{IsKept}
 
 pub All-weaker : {X : Type 0} (P Q : X → Type 0) → ((x : X) → P x → Q x) → (xs : List X) → AllByRecursion P xs → AllByRecursion Q xs

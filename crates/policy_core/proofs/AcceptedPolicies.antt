@@ -1,28 +1,12 @@
 -- A policy that accepted statements give can be run.
-use Rattle.std.proofs.Common.{◌≡◌, ℕ, zero, suc, ◌≤◌, ◌<◌, ◌^◌, ◌&&◌, true, false, List, [], ◌∷◌, length, refl, sym, ap, subst, arith, true≢false, IsTrue, not, nat_le, Option, Some, None, unwrap_or, Any, leb-true}
-use Rattle.std.proofs.lemmas.Bool.{and_parts}
-use Rattle.std.specs.List.{AllByRecursion}
-use Rattle.std.proofs.lemmas.List.Elements.{recursion_from_All}
-use Rattle.tree_defs.specs.Tree.{Tree, leaf as leaf_of, inner, Trees, none, more, Address, nodes, nodes_below, count_of, depth, most_levels}
-use Rattle.rank_defs.specs.Builtins.{Builtin, builtins}
-use Rattle.rank_defs.specs.Shapes.{IsShaped, max_prio, max_weight, max_slack}
+use Rattle.policy_core.proofs.Prelude.{List, ◌≡◌, ℕ, ap, sym, subst, [], arith, length, ◌<◌, ◌∷◌, refl, suc, true, Some, zero, None, Option, ◌≤◌, false, true≢false, Any, not, IsTrue, unwrap_or, ◌&&◌, ◌^◌, leb-true, nat_le, and_parts, recursion_from_All, AllByRecursion, IsAccepted, AreMarksInRange, HasFewChildren, HasLimitsAtLeaves, HaveFewChildren, HaveLimitsAtLeaves, IsClassReady, IsNodeReady, Node, node_at, node_below, AreAccepted, has_catch_all_behind, Name, programs, IsTreeIn, Declared, Resolved, classes_in, AreTreesIn, IsInnerOf, IsLeafOf, IsResolved, names_of, AreClassesOf, IsNodeOf, marks_of, Entry, Sense, node, class, version, each, keep, pop, push, transaction, IsName, IsValid, AreValidAttributes, IsValidAttribute, Attrs, Builtin, builtins, IsShaped, max_prio, max_slack, max_weight, most_name, Tree, Trees, inner, more, none, Address, nodes, depth, nodes_below, most_levels, count_of, AreValid}
+use Rattle.tree_defs.specs.Tree.{leaf as leaf_of}
 use Rattle.rank_defs.specs.Checks.{IsChecked}
 use Rattle.rank_defs.proofs.Table.{builtins-checked}
-use Rattle.policy_text_defs.specs.declared.attribute.Attrs.{Attrs}
 use Rattle.policy_text_defs.specs.declared.attribute.Attribute.TheVariants as attribute
 use Rattle.policy_text_defs.specs.Words.{is_word, is_reserved}
-use Rattle.text_core.specs.Tokens.{most_name}
-use Rattle.policy_text_defs.specs.Statements.{IsName}
-use Rattle.policy_text_defs.specs.Valid.{IsValid, IsValidAttribute, AreValidAttributes}
-use Rattle.policy_text_defs.specs.Sense.{Sense, Entry, version, transaction, keep, each, push, pop, class, leaf, node}
-use Rattle.policy_defs.specs.Policy.{Node, Class, node_at, node_below}
-use Rattle.policy_defs.specs.Accepted.{AreMarksInRange, IsNodeReady, IsClassReady, HasFewChildren, HaveFewChildren, HasLimitsAtLeaves, HaveLimitsAtLeaves, IsAccepted}
-use Rattle.policy_rules.specs.Names.{Name}
-use Rattle.policy_rules.specs.Clauses.{has_catch_all_behind}
-use Rattle.policy_rules.specs.Programs.{programs}
-use Rattle.policy_rules.specs.Accepted.{AreAccepted}
-use Rattle.policy_rules.specs.Resolved.{Resolved, IsResolved, IsNodeOf, IsLeafOf, IsInnerOf, IsTreeIn, AreTreesIn, AreClassesOf, Declared, classes_in, marks_of, names_of}
-use Rattle.policy_core.specs.PlaceLaws.{AreValid}
+use Rattle.policy_text_defs.specs.Sense.{leaf}
+use Rattle.policy_defs.specs.Policy.{Class}
 use Rattle.policy_core.proofs.PlacePrograms.{none-some, some-same, program-holds}
 use Rattle.policy_core.proofs.AcceptedStatements.{checked-there, catch_all-there}
 

@@ -1,11 +1,6 @@
 -- Properties of accepted statements.
-use Rattle.std.proofs.Common.{◌≡◌, ℕ, ◌<◌, Bool, true, false, not, List, length, get_or, refl}
-use Rattle.policy_text_defs.specs.Sense.{Entry}
+use Rattle.policy_core.proofs.Prelude.{List, ◌≡◌, ℕ, length, ◌<◌, refl, get_or, true, false, Bool, not, AreAccepted, HaveRoot, AreKnown, NoLine, IsUnknown, is_known, IsNotListedOnce, has_catch_all, has_root, before, programs, Entry}
 use Rattle.rank_defs.specs.Checks.{AreChecked}
-use Rattle.policy_rules.specs.Names.{before}
-use Rattle.policy_rules.specs.Clauses.{NoLine, IsUnknown, is_known, IsNotListedOnce, has_root, has_catch_all}
-use Rattle.policy_rules.specs.Programs.{programs}
-use Rattle.policy_rules.specs.Accepted.{AreAccepted, AreKnown, HaveRoot}
 
 -- a test holds if its failure is rejected
 pub holds : (b : Bool) → (not b ≡ true → ⊥) → b ≡ true

@@ -1,33 +1,9 @@
 -- The parts built from accepted statements are the parts of their policy.
-use Rattle.std.proofs.Common.{◌≡◌, ◌<◌, ◌≤◌, ℕ, suc, Option, List, [], ◌∷◌, refl, sym, ap, subst, ◌∙◌, length, map, get_or, position, arith}
-use Rattle.std.specs.Prelude.{unwrap_or}
-use Rattle.std.specs.Str.{bytes_eq}
-use Rattle.std.specs.List.{AllByRecursion, AllZip}
-use Rattle.std.proofs.lemmas.List.{get_or-map, get_or_default, length-map}
-use Rattle.tree_defs.specs.Tree.{Tree, Address, root_of, nodes, depth, most_nodes}
-use Rattle.tree_defs.specs.Topology.{Topology, topology_of}
-use Rattle.rank_defs.specs.Shapes.{IsShaped}
-use Rattle.rank_defs.specs.Programs.{Program}
-use Rattle.policy_text_defs.specs.declared.condition.Condition.{Condition}
-use Rattle.policy_text_defs.specs.Sense.{Entry}
-use Rattle.policy_defs.specs.Policy.{Node, Class as Aimed}
-use Rattle.policy_defs.specs.Accepted.{IsAccepted}
-use Rattle.policy_defs.specs.BuiltIn.{AreBuiltIn}
-use Rattle.policy_rules.specs.Names.{Name, declared, class_name, node_name}
-use Rattle.policy_rules.specs.Clauses.{root, most_classes, version_of}
-use Rattle.policy_rules.specs.Programs.{place, programs}
-use Rattle.policy_rules.specs.Accepted.{AreAccepted}
-use Rattle.policy_rules.specs.Graph.{graph_of, nodes_in}
-use Rattle.policy_rules.specs.Resolved.{Declared, IsResolved, IsTreeIn, AreClassesOf, classes_in}
-use Rattle.tree_defs.proofs.Shapes.{nodes-topology, depth-topology}
-use Rattle.policy_rules.specs.Entries.{AreRising}
+use Rattle.policy_core.proofs.Prelude.{List, ◌≡◌, ℕ, ap, sym, subst, [], ◌∙◌, arith, length, ◌<◌, ◌∷◌, refl, get_or, suc, map, Option, ◌≤◌, unwrap_or, position, get_or_default, length-map, AllByRecursion, AllZip, bytes_eq, IsAccepted, AreBuiltIn, Node, place-within, found, AreAccepted, root, most_classes, version_of, AreRising, graph_of, nodes_in, known_programs, Name, declared, node_name, class_name, place, programs, IsTreeIn, Declared, classes_in, IsResolved, AreClassesOf, Entry, Condition, Program, IsShaped, nodes-topology, depth-topology, topology_of, Topology, Tree, Address, root_of, nodes, depth, most_nodes, length-rows, rows, IsTreeBelow, Row, row_at, row, nodes_of, AreHomes, IsHome, classes_at, node_numbered, nodes_at, Made, made, made_of, nodes_told, address_at, nodes_from, HasCatchAll, no_station, node_of, resolved, station_at, tree_of, HaveStations, AreValid, IsNodeTree, PolicyNode}
+use Rattle.std.proofs.lemmas.List.{get_or-map}
+use Rattle.policy_defs.specs.Policy.{Class as Aimed}
 use Rattle.tree_graph.specs.Descent.{times}
-use Rattle.tree_graph.specs.Row.{Row, row, row_at, nodes_of}
-use Rattle.tree_graph.specs.Preorder.{Numbered, rows, IsTreeBelow, IsSound}
-use Rattle.tree_graph.proofs.GrowthLemmas.{length-rows}
-use Rattle.policy_core.specs.Labels.{node_numbered, nodes_at}
-use Rattle.policy_core.specs.Homes.{IsHome, AreHomes, classes_at}
-use Rattle.policy_core.specs.PlaceLaws.{AreValid, IsNodeTree}
+use Rattle.tree_graph.specs.Preorder.{Numbered, IsSound}
 use Rattle.policy_core.proofs.TreeAgreement.{nodes-agree}
 use Rattle.policy_core.proofs.LeafClasses.{classes-of, names-classes}
 use Rattle.policy_core.proofs.ResolvedTrees.{node-tree}
@@ -35,17 +11,12 @@ use Rattle.policy_core.proofs.Shape.{topology-map}
 use Rattle.policy_core.proofs.AcceptedPolicies.{acceptable}
 use Rattle.policy_core.proofs.BuiltIns.{built-in}
 use Rattle.policy_core.proofs.AcceptedStatements.{root-there}
-use Rattle.policy_rules.proofs.PlaceLaws.{found, place-within}
 use Rattle.policy_core.proofs.HomePasses.{length-graph}
 use Rattle.policy_core.proofs.HomeLaws.{length-nodes}
 use Rattle.policy_core.proofs.InverseNumbers.{node-within}
-use Rattle.policy_rules.specs.Known.{known_programs}
 use Rattle.policy_core.proofs.FamilyNames.{named}
-use Rattle.policy_core.specs.declared.parts.PolicyNode.{PolicyNode}
 use Rattle.policy_core.specs.declared.parts.Class.{Class}
-use Rattle.policy_core.specs.Numbering.{nodes_from, address_at}
-use Rattle.policy_core.specs.Parts.{resolved, tree_of, node_of, station_at, no_station, class_in, HaveLeaves, HaveStations, HasCatchAll}
-use Rattle.policy_core.specs.Made.{Made, made, made_of, nodes_told}
+use Rattle.policy_core.specs.Parts.{class_in, HaveLeaves}
 use Rattle.policy_core.proofs.FewClasses.{few-classes, catch-all}
 use Rattle.policy_core.proofs.NumberedAddresses.{address_at-topology, topology_of-nodes}
 use Rattle.policy_core.proofs.Rows.{row-numbered}

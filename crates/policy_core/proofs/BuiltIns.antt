@@ -1,15 +1,7 @@
 -- A policy that accepted statements give uses the names of built-in transactions only for these.
-use Rattle.std.proofs.Common.{◌≡◌, ℕ, zero, suc, List, ◌∷◌, [], sym, ap, ◌∙◌, subst, Option, Some, None}
-use Rattle.tree_defs.specs.Tree.{Tree, leaf as leaf_of, inner, Trees, none, more, Address}
-use Rattle.rank_defs.specs.Programs.{Program}
-use Rattle.rank_defs.specs.Builtins.{builtin}
-use Rattle.policy_text_defs.specs.declared.attribute.Attrs.{Attrs}
-use Rattle.policy_text_defs.specs.Sense.{Sense, Entry, version, transaction, keep, each, push, pop, class, leaf, node}
-use Rattle.policy_defs.specs.Policy.{Node, node_at, node_below}
-use Rattle.policy_defs.specs.BuiltIn.{AreBuiltIn}
-use Rattle.policy_rules.specs.Names.{Name}
-use Rattle.policy_rules.specs.Programs.{body_named, or_written}
-use Rattle.policy_rules.specs.Resolved.{Resolved, IsResolved, IsNodeOf, IsLeafOf, IsInnerOf, IsTreeIn, AreTreesIn, names_of}
+use Rattle.policy_core.proofs.Prelude.{List, ◌≡◌, ℕ, ap, sym, subst, [], ◌∙◌, ◌∷◌, suc, Some, zero, None, Option, AreBuiltIn, Node, node_at, node_below, Name, body_named, or_written, IsTreeIn, Resolved, AreTreesIn, IsInnerOf, IsLeafOf, IsResolved, names_of, IsNodeOf, Entry, Sense, node, class, version, each, keep, pop, push, transaction, Attrs, builtin, Program, Tree, Trees, inner, more, none, Address}
+use Rattle.tree_defs.specs.Tree.{leaf as leaf_of}
+use Rattle.policy_text_defs.specs.Sense.{leaf}
 use Rattle.policy_core.proofs.PlacePrograms.{none-some, some-same}
 
 -- if a node uses this name, it has this program

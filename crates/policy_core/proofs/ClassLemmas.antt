@@ -1,17 +1,8 @@
 -- Classes built from statements, one by one.
-use Rattle.std.proofs.Common.{◌≡◌, ◌<◌, ◌+◌, ℕ, List, [], ◌∷◌, ◌++◌, Some, None, refl, sym, ap, ◌∙◌, length, map, take, get_or, slice_index, append-nil, length-append, arith}
-use Rattle.std.specs.List.{cons_option}
-use Rattle.std.proofs.lemmas.List.{map_push}
-use Rattle.policy_text_defs.specs.declared.attribute.Attrs.{Attrs}
-use Rattle.policy_text_defs.specs.declared.condition.Condition.{Condition}
-use Rattle.policy_text_defs.specs.declared.statement.Statement.{Statement}
+use Rattle.policy_core.proofs.Prelude.{List, ◌≡◌, ℕ, ap, sym, [], ◌∙◌, arith, length, ◌<◌, ◌∷◌, refl, get_or, Some, map, None, ◌++◌, ◌+◌, take, length-append, slice_index, append-nil, map_push, cons_option, given-more, given-within, entries_of, Declared, classes_in, marks_of, sense_of, Attrs, Condition, Statement, Made, made, made_of}
 use Rattle.policy_text_defs.specs.declared.statement.Statement.TheVariants as statement
-use Rattle.policy_text_defs.specs.Sense.{sense_of}
-use Rattle.policy_rules.specs.Entries.{entries_of}
-use Rattle.policy_rules.specs.Resolved.{Declared, class_in, classes_in, marks_of}
-use Rattle.policy_rules.proofs.Lines.{given-more, given-within}
+use Rattle.policy_rules.specs.Resolved.{class_in}
 use Rattle.policy_core.specs.declared.parts.Class.{Class}
-use Rattle.policy_core.specs.Made.{Made, made, made_of}
 
 abbrev pub made_with : Declared → ℕ → Made
 made_with d n = record { marks = d.marks; conditions = d.conditions; leaf = n }

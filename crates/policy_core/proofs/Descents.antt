@@ -1,16 +1,7 @@
 -- Descendants by name and by number.
-use Rattle.std.proofs.Common.{◌≡◌, ℕ, zero, suc, ◌<◌, ◌↔◌, true, List, [], length, sym, ap, subst, ◌∙◌, arith, inl, inr, Contains, get_or, map, Some}
-use Rattle.std.specs.List.{list_all}
-use Rattle.std.proofs.lemmas.Bool.{cases_lt}
-use Rattle.std.proofs.Math.ListN.{get_or-eq_default}
-use Rattle.policy_text_defs.specs.Sense.{Entry}
-use Rattle.policy_rules.specs.Names.{Name, has, node_name, children, declared}
-use Rattle.policy_rules.specs.Programs.{place}
-use Rattle.policy_rules.specs.Graph.{graph_of}
-use Rattle.policy_rules.specs.Families.{ListsChild, NamesLead, IsDescendant}
-use Rattle.policy_rules.proofs.PlaceLaws.{place-within, at-place}
-use Rattle.tree_graph.specs.Descent.{IsChild, Leads, IsBelow, AreInRange, children as kids}
-use Rattle.policy_core.specs.Lines.{node_entries}
+use Rattle.policy_core.proofs.Prelude.{List, ◌≡◌, ℕ, ap, sym, subst, [], ◌∙◌, arith, length, ◌<◌, get_or, suc, true, Some, map, zero, inl, inr, Contains, ◌↔◌, get_or-eq_default, cases_lt, list_all, place-within, at-place, IsDescendant, NamesLead, ListsChild, graph_of, Name, declared, node_name, has, place, Entry, IsBelow, AreInRange, IsChild, Leads, node_entries}
+use Rattle.policy_rules.specs.Names.{children}
+use Rattle.tree_graph.specs.Descent.{children as kids}
 use Rattle.policy_core.proofs.NumberedPlaces.{only-place, all-at, Contains-map, Contains-map_back}
 use Rattle.policy_core.proofs.Kinship.{IsNodeAt, node-of, node-was, node-at, name-at, name_of, kids-at, some-name, length-names, length-graph}
 use Rattle.policy_core.proofs.FamilyNames.{IsNamed, some-entry}

@@ -1,15 +1,7 @@
 -- If no name is declared again, the classes are distinct.
-use Rattle.std.proofs.Common.{◌≡◌, ℕ, zero, suc, ◌<◌, ◌∙◌, true, false, ◌||◌, cond, List, [], ◌∷◌, length, get_or, refl, ap, arith, inl, inr}
-use Rattle.std.proofs.lemmas.Bool.{eqb-true, cases_Bool}
-use Rattle.std.proofs.lemmas.List.Sums.{sum_by-cons}
-use Rattle.std.specs.List.{IsDistinct, AllByRecursion}
-use Rattle.std.specs.Option.{option_map_or}
-use Rattle.std.specs.Str.{bytes_eq}
-use Rattle.policy_text_defs.specs.Sense.{Sense, Entry, version, transaction, keep, each, push, pop, class, leaf, node}
-use Rattle.policy_rules.specs.Names.{Name, has, times, is_once, declared, class_name}
-use Rattle.policy_rules.specs.Clauses.{NoLine, is_declared, IsRepeated, is_not_listed_once}
-use Rattle.policy_rules.specs.Entries.{AreRising}
-use Rattle.policy_rules.proofs.SpaceLaws.{declared-distinct}
+use Rattle.policy_core.proofs.Prelude.{List, ◌≡◌, ℕ, ap, [], ◌∙◌, arith, length, ◌<◌, ◌∷◌, refl, get_or, suc, true, zero, inl, inr, false, ◌||◌, cond, cases_Bool, eqb-true, sum_by-cons, AllByRecursion, IsDistinct, option_map_or, bytes_eq, declared-distinct, NoLine, IsRepeated, is_declared, is_not_listed_once, AreRising, Name, declared, has, class_name, is_once, Entry, Sense, node, class, version, each, keep, pop, push, transaction}
+use Rattle.policy_text_defs.specs.Sense.{leaf}
+use Rattle.policy_rules.specs.Names.{times}
 use Rattle.policy_core.proofs.AcceptedStatements.{holds}
 
 -- a class that isn't declared again is new

@@ -1,19 +1,6 @@
 -- Consequences of the first node on a cycle and of the first deep node for the statements.
-use Rattle.std.proofs.Common.{◌≡◌, ℕ, ◌<◌, ◌^◌, ◌↔◌, true, List, length, sym, ap, subst, ◌∙◌, arith, Vec}
+use Rattle.policy_core.proofs.Prelude.{List, ◌≡◌, ℕ, ap, sym, subst, ◌∙◌, arith, length, ◌<◌, true, ◌↔◌, Vec, ◌^◌, place-within, AreAcyclic, HaveRoot, AreShallow, root, IsLeastLine, AreRising, IsCyclic, IsDescendant, IsTooDeep, NamesLead, graph_of, Name, declared, node_name, has, place, Entry, most_levels, length-lists, Graph, lists, IsBelow, IsForest, IsDeep, IsLeast, AreInRange, AreParents, node_entries, line_at}
 use Rattle.std.specs.declared.alloc.Global.{Global}
-use Rattle.tree_defs.specs.Tree.{most_levels}
-use Rattle.policy_text_defs.specs.Sense.{Entry}
-use Rattle.policy_rules.specs.Names.{Name, has, node_name, declared}
-use Rattle.policy_rules.specs.Clauses.{IsLeastLine, root}
-use Rattle.policy_rules.specs.Families.{IsDescendant, IsCyclic, IsTooDeep, NamesLead}
-use Rattle.policy_rules.specs.Entries.{AreRising}
-use Rattle.policy_rules.specs.Programs.{place}
-use Rattle.policy_rules.specs.Graph.{graph_of}
-use Rattle.policy_rules.specs.Accepted.{HaveRoot, AreAcyclic, AreShallow}
-use Rattle.policy_rules.proofs.PlaceLaws.{place-within}
-use Rattle.tree_graph.specs.Descent.{Graph, lists, AreInRange, IsLeast, IsBelow, IsDeep, IsForest, AreParents}
-use Rattle.tree_graph.proofs.MarkLemmas.{length-lists}
-use Rattle.policy_core.specs.Lines.{node_entries, line_at}
 use Rattle.policy_core.proofs.Kinship.{length-names, length-graph}
 use Rattle.policy_core.proofs.FamilyNames.{IsNamed, named}
 use Rattle.policy_core.proofs.Descents.{graph-in-range, leads-same, leads-inside, descendants-same, below-inside}

@@ -1,19 +1,9 @@
 -- If no name is declared again and none is unknown, names identify nodes.
-use Rattle.std.proofs.Common.{◌≡◌, ◌≢◌, ℕ, ◌<◌, ◌≤◌, true, false, not, List, [], ◌∷◌, ◌++◌, length, refl, sym, ap, subst, arith, All, get_or}
-use Rattle.std.proofs.lemmas.Bool.{and_parts, true_from_ne_false, eqb-false}
-use Rattle.std.proofs.lemmas.List.{length-append}
-use Rattle.std.specs.Option.{option_map_or}
-use Rattle.std.specs.List.{IsDistinct, cons_option, list_all}
-use Rattle.std.specs.Str.{bytes_eq}
-use Rattle.policy_text_defs.specs.Sense.{Sense, Entry, version, transaction, keep, each, push, pop, class, leaf, node, sense_of}
-use Rattle.policy_text_defs.specs.declared.statement.Statement.{Statement}
-use Rattle.policy_rules.specs.Names.{Name, has, node_name, children, declared, before}
-use Rattle.policy_rules.specs.Clauses.{is_declared, is_known, is_one_too_many, is_transaction_known}
-use Rattle.tree_defs.specs.Tree.{most_nodes}
-use Rattle.policy_rules.specs.Entries.{AreRising, entries_of}
-use Rattle.policy_rules.specs.Accepted.{AreFew}
-use Rattle.policy_rules.proofs.Lines.{entry_of, within-entries, entry-at}
-use Rattle.policy_rules.proofs.SpaceLaws.{declared-distinct, declared-few}
+use Rattle.policy_core.proofs.Prelude.{List, ◌≡◌, ℕ, ap, sym, subst, [], arith, length, ◌<◌, ◌∷◌, refl, get_or, true, ◌++◌, ◌≤◌, false, length-append, not, ◌≢◌, and_parts, eqb-false, true_from_ne_false, list_all, cons_option, IsDistinct, option_map_or, bytes_eq, entry-at, within-entries, declared-distinct, declared-few, AreFew, is_known, is_declared, is_transaction_known, is_one_too_many, entries_of, AreRising, Name, declared, node_name, has, before, Entry, Sense, node, class, version, each, keep, pop, push, transaction, sense_of, Statement, most_nodes}
+use Rattle.std.proofs.Common.{All}
+use Rattle.policy_text_defs.specs.Sense.{leaf}
+use Rattle.policy_rules.specs.Names.{children}
+use Rattle.policy_rules.proofs.Lines.{entry_of}
 
 -- each node's name is declared once, each listed child is declared, and there aren't too many nodes
 pub record IsNamed (es : List Entry) : Type 0 where

@@ -1,16 +1,8 @@
 -- Statements without an error are accepted.
-use Rattle.std.proofs.Common.{◌≡◌, ◌<◌, ℕ, zero, suc, Bool, true, false, List, length, get_or, refl, inl, inr, arith}
-use Rattle.std.proofs.lemmas.Bool.{cases_lt}
-use Rattle.std.proofs.lemmas.List.{get_or_default}
+use Rattle.policy_core.proofs.Prelude.{List, ◌≡◌, ℕ, arith, length, ◌<◌, refl, get_or, suc, true, zero, inl, inr, false, Bool, cases_lt, get_or_default, AreAcyclic, HaveRoot, AreKnown, IsFault, AreFew, AreShallow, AreComputable, AreNew, ArePlaced, HaveCatchAll, HaveParents, NoLine, IsRepeated, IsUnknown, IsLeastLine, IsNotListedOnce, IsOrphan, has_catch_all, has_root, IsOneTooMany, IsMisplaced, NeedsVersion2, IsCyclic, IsTooDeep, programs, PolicyFault, NoMemory, ClassLeaf, Cycle, Deep, DivZero, Misplaced, NoCatchAll, NoRoot, OldVersion, Parents, TooMany, Twice, TypeClash, Unknown, Wide, Entry}
 use Rattle.rank_defs.specs.Checks.{Entry as Assigning, SomeAt, NoneAt, IsLeastAt, Clashes, IsWide, MayDivideByZero, entries as assignments_of}
 use Rattle.rank_defs.proofs.Faults.{faultless-checked}
-use Rattle.policy_text_defs.specs.Sense.{Entry}
-use Rattle.policy_rules.specs.Clauses.{IsLeastLine, NoLine, IsMisplaced, IsRepeated, IsUnknown, IsOneTooMany, IsOrphan, has_root, IsNotListedOnce, has_catch_all, NeedsVersion2}
-use Rattle.policy_rules.specs.Families.{IsCyclic, IsTooDeep}
-use Rattle.policy_rules.specs.Programs.{programs}
-use Rattle.policy_rules.specs.Accepted.{ArePlaced, AreNew, AreKnown, AreFew, AreComputable, HaveParents, HaveRoot, AreAcyclic, AreShallow, HaveLeaves, HaveCatchAll, IsFault}
-use Rattle.policy_rules.specs.declared.fault.PolicyFault.{PolicyFault}
-use Rattle.policy_rules.specs.declared.fault.PolicyFault.TheVariants.{Misplaced, Twice, Unknown, TooMany, TypeClash, Wide, DivZero, Parents, NoRoot, Cycle, Deep, ClassLeaf, NoCatchAll, OldVersion, NoMemory}
+use Rattle.policy_rules.specs.Accepted.{HaveLeaves}
 use Rattle.policy_core.specs.TextLaws.{FaultlessAreAccepted}
 
 -- ---- if no line is the first in error, none is in error

@@ -1,15 +1,6 @@
 -- The number of classes that accepted statements declare, and the last of them.
-use Rattle.std.proofs.Common.{◌≡◌, ◌≢◌, ◌≤◌, suc, Bool, true, false, true≢false, List, [], ◌∷◌, ◌++◌, refl, sym, ap, subst, length, map, append-nil, append_assoc, length-append, arith}
-use Rattle.std.specs.List.{cons_option}
-use Rattle.std.proofs.lemmas.Bool.{eqb-false}
-use Rattle.policy_text_defs.specs.declared.condition.Condition.{Condition}
-use Rattle.policy_text_defs.specs.Sense.{Sense, Entry, version, transaction, keep, each, push, pop, class, leaf, node}
-use Rattle.policy_rules.specs.Names.{declared, class_name}
-use Rattle.policy_rules.specs.Entries.{AreRising}
-use Rattle.policy_rules.specs.Clauses.{NoLine, IsOneTooMany, is_one_too_many, most_classes, has_catch_all, has_catch_all_behind}
-use Rattle.policy_rules.specs.Resolved.{Declared, classes_in}
-use Rattle.policy_rules.proofs.SpaceLaws.{declared-few}
-use Rattle.policy_core.specs.Parts.{HasCatchAll}
+use Rattle.policy_core.proofs.Prelude.{List, ◌≡◌, ap, sym, subst, [], arith, length, ◌∷◌, refl, suc, true, map, ◌++◌, ◌≤◌, false, Bool, true≢false, length-append, append-nil, append_assoc, ◌≢◌, eqb-false, cons_option, declared-few, NoLine, has_catch_all, is_one_too_many, most_classes, IsOneTooMany, has_catch_all_behind, AreRising, declared, class_name, Declared, classes_in, Entry, Sense, node, class, version, each, keep, pop, push, transaction, Condition, HasCatchAll}
+use Rattle.policy_text_defs.specs.Sense.{leaf}
 
 -- ---- the limit on classes
 one-more : (earlier : List Entry) (s : Sense) → is_one_too_many earlier s ≡ false → length (declared class_name earlier) ≤ most_classes → length (declared class_name earlier ++ cons_option (class_name s) []) ≤ most_classes

@@ -1,25 +1,11 @@
 -- If each node except the root is listed once, the graph is a forest.
-use Rattle.std.proofs.Common.{◌≡◌, ◌≢◌, ℕ, zero, suc, ◌<◌, ◌≤◌, ◌⊎◌, ◌&&◌, Bool, true, false, not, cond, List, [], ◌∷◌, ◌++◌, length, refl, sym, ap, subst, ◌∙◌, arith, inl, inr, true≢false, get_or, map, Some, is_some, Contains, All, sum_by, count_by}
-use Rattle.std.proofs.lemmas.Bool.{cases_Bool, cases_eq, cases_lt, and_parts, eqb-true, eq-eqb, ne_eqb}
-use Rattle.std.proofs.lemmas.List.{get_or_default}
-use Rattle.std.proofs.lemmas.List.Folds.{flat_map-map}
-use Rattle.std.proofs.lemmas.List.Sums.{sum_by-append, sum_by-cons}
-use Rattle.std.proofs.lemmas.List.Elements.{Contains-append_right, All-map, All-filter, All-head, All-tail}
-use Rattle.std.proofs.lemmas.Slice.Eq.{bytes_eq-Decides}
-use Rattle.std.proofs.Math.ListN.{get_or-eq_default}
+use Rattle.policy_core.proofs.Prelude.{List, ◌≡◌, ℕ, ap, sym, subst, [], ◌∙◌, arith, length, ◌<◌, ◌∷◌, refl, get_or, suc, true, Some, map, zero, ◌++◌, inl, inr, ◌≤◌, false, Bool, Contains, true≢false, cond, not, is_some, ◌≢◌, ◌⊎◌, ◌&&◌, count_by, get_or-eq_default, cases_Bool, cases_lt, and_parts, eqb-true, cases_eq, eq-eqb, ne_eqb, get_or_default, Contains-append_right, All-filter, All-head, All-map, All-tail, flat_map-map, sum_by-cons, sum_by-append, bytes_eq-Decides, list_all, IsDistinct, flat_map, option_map_or, bytes_eq, place-within, at-place, NoLine, root, IsOrphan, has_root, is_orphan, graph_of, Name, declared, node_name, has, listed, is_once, place, Entry, Sense, node, class, version, each, keep, pop, push, transaction, Graph, IsBelow, IsForest, IsChild, HasOneParent, node_entries}
+use Rattle.std.proofs.Common.{All, sum_by}
 use Rattle.std.specs.Bool.{nat_eq}
-use Rattle.std.specs.Option.{option_map_or}
-use Rattle.std.specs.List.{list_all, flat_map, IsDistinct}
-use Rattle.std.specs.Str.{bytes_eq}
-use Rattle.policy_text_defs.specs.Sense.{Sense, Entry, version, transaction, keep, each, push, pop, class, leaf, node}
-use Rattle.policy_rules.specs.Names.{Name, has, node_name, children, declared, listed, is_once}
-use Rattle.policy_rules.specs.Clauses.{NoLine, IsOrphan, is_orphan, has_root, root}
-use Rattle.policy_rules.specs.Programs.{place}
-use Rattle.policy_rules.specs.Graph.{graph_of}
-use Rattle.policy_rules.proofs.PlaceLaws.{at-place, place-within}
-use Rattle.tree_graph.specs.Descent.{Graph, IsChild, IsBelow, IsForest, HasOneParent, times, children as kids}
+use Rattle.policy_text_defs.specs.Sense.{leaf}
+use Rattle.policy_rules.specs.Names.{children}
+use Rattle.tree_graph.specs.Descent.{times, children as kids}
 use Rattle.tree_graph.proofs.NodesOnce.{is}
-use Rattle.policy_core.specs.Lines.{node_entries}
 use Rattle.policy_core.proofs.NumberedPlaces.{only-place}
 use Rattle.policy_core.proofs.Kinship.{IsNodeAt, node-at, node-was, name-at, name_of, length-names, length-graph, families-of-nodes}
 use Rattle.policy_core.proofs.FamilyNames.{IsNamed, some-entry}

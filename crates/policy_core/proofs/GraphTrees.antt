@@ -1,10 +1,7 @@
 -- A graph has a tree below a node if no path down from the node is too long.
-use Rattle.std.proofs.Common.{◌≡◌, ℕ, zero, suc, ◌+◌, ◌≤◌, ◌∙◌, List, [], ◌∷◌, length, refl, sym, ap, Contains, arith}
-use Rattle.std.proofs.lemmas.List.Elements.{Contains-append_right}
-use Rattle.tree_defs.specs.Tree.{Tree, leaf, inner, Trees, none, more, HasChild, root_of}
-use Rattle.tree_graph.specs.Descent.{Graph, children, IsWithin}
-use Rattle.tree_graph.specs.Preorder.{labels, IsTreeOf, AreTreesOf}
-use Rattle.tree_graph.proofs.GrowthLemmas.{within-child, child-within}
+use Rattle.policy_core.proofs.Prelude.{List, ◌≡◌, ℕ, ap, sym, [], ◌∙◌, arith, length, ◌∷◌, refl, suc, zero, ◌+◌, ◌≤◌, Contains, Contains-append_right, Tree, Trees, inner, more, none, root_of, HasChild, child-within, within-child, Graph, IsWithin, IsTreeOf, AreTreesOf, labels}
+use Rattle.tree_defs.specs.Tree.{leaf}
+use Rattle.tree_graph.specs.Descent.{children}
 
 -- a tree of the graph below a node, and trees below nodes
 pub record HasTree (g : Graph) (i : ℕ) : Type 0 where

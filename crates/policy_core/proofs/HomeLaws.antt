@@ -1,22 +1,6 @@
 -- The leaf of each class, after all statements.
-use Rattle.std.proofs.Common.{◌≡◌, ℕ, suc, ◌<◌, ◌≤◌, ◌∙◌, true, List, [], ◌∷◌, length, take, get_or, slice_index, sym, ap, subst, arith}
-use Rattle.std.proofs.lemmas.List.Elements.{recursion_from_All}
-use Rattle.std.specs.List.{AllZip, IsDistinct}
-use Rattle.std.specs.Str.{bytes_eq}
-use Rattle.std.proofs.lemmas.List.{length-map, take_all}
-use Rattle.policy_text_defs.specs.declared.statement.Statement.{Statement}
-use Rattle.policy_text_defs.specs.Sense.{Entry}
-use Rattle.policy_defs.specs.Policy.{Node}
-use Rattle.policy_rules.specs.Names.{Name, has, declared, class_name, listed, leaf_classes}
-use Rattle.policy_rules.specs.Clauses.{NoLine, IsRepeated, IsNotListedOnce, is_not_listed_once}
-use Rattle.policy_rules.specs.Entries.{entries_of, AreRising}
-use Rattle.policy_rules.specs.Programs.{place}
-use Rattle.policy_rules.specs.Graph.{graph_of, nodes_in}
-use Rattle.tree_graph.specs.Row.{Row}
-use Rattle.policy_core.specs.Numbers.{ArePlaces}
-use Rattle.policy_core.specs.Homes.{IsLeafWith, IsHome, AreHomes}
+use Rattle.policy_core.proofs.Prelude.{List, ◌≡◌, ℕ, ap, sym, subst, [], ◌∙◌, arith, length, ◌<◌, ◌∷◌, get_or, suc, true, ◌≤◌, take, slice_index, length-map, take_all, recursion_from_All, IsDistinct, AllZip, bytes_eq, Node, has-at, place-at, NoLine, IsRepeated, IsNotListedOnce, is_not_listed_once, entries_of, AreRising, graph_of, nodes_in, Name, declared, has, class_name, leaf_classes, listed, place, Entry, Statement, Row, AreHomes, IsHome, IsLeafWith, ArePlaces}
 use Rattle.policy_core.proofs.NodeStatements.{names-nodes}
-use Rattle.policy_rules.proofs.PlaceLaws.{has-at, place-at}
 use Rattle.policy_core.proofs.DistinctClasses.{distinct-classes, classes-listed}
 use Rattle.policy_core.proofs.HomePasses.{IsLeafPlace, IsPassing, length-graph}
 

@@ -1,27 +1,9 @@
 -- A pass over statements that finds the leaf of each class that leaves list.
-use Rattle.std.proofs.Common.{◌≡◌, ◌⊎◌, ℕ, suc, ◌+◌, ◌<◌, ◌||◌, ◌∙◌, true, false, List, [], ◌∷◌, ◌++◌, length, map, take, drop, get_or, slice_index, refl, sym, ap, subst, arith, inl, inr, true≢false, Some, None, Contains, append-nil, append_assoc, Option, length-append, if◌then◌else◌}
-use Rattle.std.proofs.lemmas.Bool.{cases_Bool}
-use Rattle.std.proofs.lemmas.Slice.Eq.{bytes_eq-Decides}
-use Rattle.std.proofs.Math.Bool.{or-false}
+use Rattle.policy_core.proofs.Prelude.{List, ◌≡◌, ℕ, ap, sym, subst, [], ◌∙◌, arith, length, ◌<◌, ◌∷◌, refl, get_or, suc, true, Some, map, None, ◌++◌, Option, inl, inr, ◌+◌, take, false, Contains, true≢false, ◌||◌, length-append, slice_index, append-nil, append_assoc, ◌⊎◌, drop, if◌then◌else◌, or-false, cases_Bool, length-map, map-append, filter_map-append, Any-from_list_any, list_any-append, bytes_eq-Decides, cons_option, bytes_eq, Node, given-more, given-within, entries-more, Line, entries_of, graph_of, nodes_in, family, Name, declared, node_name, has, leaf_classes, listed, place, Entry, Sense, sense_of, entry, Attrs, Statement, ArePut, IsLeafWith, node_numbered}
 use Rattle.std.proofs.Math.Seq.{get_or-append_seam, split_at}
-use Rattle.std.proofs.lemmas.List.{length-map, map-append}
-use Rattle.std.proofs.lemmas.List.Elements.{filter_map-append}
-use Rattle.std.proofs.lemmas.List.Folds.{list_any-append, Any-from_list_any}
-use Rattle.std.specs.List.{cons_option}
-use Rattle.std.specs.Str.{bytes_eq}
-use Rattle.policy_text_defs.specs.declared.attribute.Attrs.{Attrs}
-use Rattle.policy_text_defs.specs.declared.statement.Statement.{Statement}
 use Rattle.policy_text_defs.specs.declared.statement.Statement.TheVariants as statement
-use Rattle.policy_text_defs.specs.Sense.{Sense, Entry, entry, sense_of, leaf}
-use Rattle.policy_defs.specs.Policy.{Node}
-use Rattle.policy_rules.specs.Names.{Name, has, declared, node_name, listed, leaf_classes}
-use Rattle.policy_rules.specs.Entries.{entries_of}
-use Rattle.policy_rules.specs.Programs.{place}
-use Rattle.policy_rules.specs.Graph.{family, graph_of, nodes_in}
-use Rattle.policy_rules.proofs.Lines.{Line, entry_of, entries-more, given-more, given-within}
-use Rattle.policy_core.specs.Labels.{node_numbered}
-use Rattle.policy_core.specs.Homes.{IsLeafWith}
-use Rattle.policy_core.specs.Homes.{ArePut}
+use Rattle.policy_text_defs.specs.Sense.{leaf}
+use Rattle.policy_rules.proofs.Lines.{entry_of}
 use Rattle.policy_core.proofs.NodeStatements.{families, length-families, names-nodes}
 use Rattle.policy_core.proofs.ResolvedTrees.{name-at, children-at}
 

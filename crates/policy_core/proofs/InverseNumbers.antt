@@ -1,16 +1,9 @@
 -- The numbers of nodes in preorder, from the nodes of the numbers.
-use Rattle.std.proofs.Common.{◌≡◌, ◌≢◌, ◌⊎◌, ◌||◌, ℕ, zero, suc, ◌+◌, ◌<◌, ◌≤◌, ◌∙◌, true, List, [], ◌∷◌, length, set, get_or, slice_index, replicate, refl, sym, ap, arith, inl, inr, cond, nat_eq}
-use Rattle.std.proofs.lemmas.Bool.{cases_Bool, cases_eq, cases_lt, eq-eqb, eqb-true}
-use Rattle.std.proofs.lemmas.List.{length-replicate, length-set, get_or-set_same, get_or-set_other}
-use Rattle.std.proofs.lemmas.List.Sums.{sum_by-cons}
-use Rattle.std.proofs.lemmas.List.Folds.{list_any_at}
+use Rattle.policy_core.proofs.Prelude.{List, ◌≡◌, ℕ, ap, sym, [], ◌∙◌, arith, length, ◌<◌, ◌∷◌, refl, get_or, suc, true, zero, inl, inr, ◌+◌, ◌≤◌, ◌||◌, cond, slice_index, ◌≢◌, ◌⊎◌, set, replicate, or-true, cases_Bool, cases_lt, eqb-true, cases_eq, eq-eqb, get_or-set_other, get_or-set_same, length-set, length-replicate, list_any_at, sum_by-cons, list_any, Row, row_at, row, nodes_of, ArePlaces}
+use Rattle.std.proofs.Common.{nat_eq}
 use Rattle.std.proofs.lemmas.Map.Steps.{le-length_from_below}
 use Rattle.std.proofs.Math.ListN.{get_or-map}
-use Rattle.std.proofs.Math.Bool.{or-true}
-use Rattle.std.specs.List.{list_any}
 use Rattle.tree_graph.specs.Descent.{times}
-use Rattle.tree_graph.specs.Row.{Row, row, row_at, nodes_of}
-use Rattle.policy_core.specs.Numbers.{ArePlaces}
 
 -- each number below n occurs once
 abbrev pub IsEachOnce : ℕ → List ℕ → Type 0

@@ -1,21 +1,11 @@
 -- Children by name and by number.
-use Rattle.std.proofs.Common.{◌≡◌, ℕ, zero, suc, ◌+◌, ◌<◌, ◌≤◌, Bool, true, false, cond, List, [], ◌∷◌, ◌++◌, length, refl, sym, ap, subst, ◌∙◌, arith, Contains, get_or, map, take, filter, filter_map, Option, None, Some, is_some, unwrap_or, Vec}
-use Rattle.std.specs.Option.{option_to_list}
-use Rattle.std.specs.List.{cons_option}
-use Rattle.std.proofs.lemmas.List.{take_all, get_or-map, get_or_default, map-append, length-map}
-use Rattle.std.proofs.lemmas.List.Elements.{filter_map-append, filter_passes, Contains-append_right}
+use Rattle.policy_core.proofs.Prelude.{List, ◌≡◌, ℕ, ap, sym, subst, [], ◌∙◌, arith, length, ◌<◌, ◌∷◌, refl, get_or, suc, true, Some, map, zero, None, ◌++◌, Option, ◌+◌, ◌≤◌, take, false, Bool, Contains, cond, is_some, unwrap_or, Vec, filter_map, filter, get_or_default, length-map, map-append, take_all, Contains-append_right, filter_map-append, filter_passes, cons_option, option_to_list, entries-more, entries_of, graph_of, family, Name, declared, node_name, place, Entry, Sense, node, class, version, each, keep, pop, push, transaction, sense_of, entry, Statement, length-lists, Graph, lists, node_entries}
+use Rattle.std.proofs.lemmas.List.{get_or-map}
 use Rattle.std.proofs.lemmas.Simd.{map-map}
-use Rattle.policy_text_defs.specs.Sense.{Sense, Entry, version, transaction, keep, each, push, pop, class, leaf, node, entry, sense_of}
-use Rattle.policy_text_defs.specs.declared.statement.Statement.{Statement}
-use Rattle.policy_rules.specs.Names.{Name, node_name, children, declared}
-use Rattle.policy_rules.specs.Programs.{place}
-use Rattle.policy_rules.specs.Graph.{family, graph_of}
-use Rattle.policy_rules.specs.Entries.{entries_of}
-use Rattle.policy_rules.proofs.Lines.{entries-more}
+use Rattle.policy_text_defs.specs.Sense.{leaf}
+use Rattle.policy_rules.specs.Names.{children}
 use Rattle.std.specs.declared.alloc.Global.{Global}
-use Rattle.tree_graph.specs.Descent.{Graph, lists, children as kids}
-use Rattle.tree_graph.proofs.MarkLemmas.{length-lists}
-use Rattle.policy_core.specs.Lines.{node_entries}
+use Rattle.tree_graph.specs.Descent.{children as kids}
 
 -- ---- the loop that builds the graph
 

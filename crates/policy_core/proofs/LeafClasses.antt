@@ -1,15 +1,6 @@
 -- Each class at a leaf that lists it.
-use Rattle.std.proofs.Common.{◌≡◌, ℕ, List, [], ◌∷◌, map, refl, sym, ap, subst}
-use Rattle.std.specs.List.{AllZip}
-use Rattle.tree_defs.specs.Tree.{Tree}
-use Rattle.policy_text_defs.specs.Sense.{Entry, version, transaction, keep, each, push, pop, class, leaf, node}
-use Rattle.policy_rules.specs.Names.{Name, declared, class_name}
-use Rattle.policy_rules.specs.Graph.{graph_of}
-use Rattle.policy_rules.specs.Resolved.{Declared, IsLeafFor, AreClassesOf, classes_in}
-use Rattle.tree_graph.specs.Row.{row_at}
-use Rattle.tree_graph.specs.Preorder.{IsTreeOf, rows}
-use Rattle.policy_core.specs.Labels.{node_numbered, nodes_at}
-use Rattle.policy_core.specs.Homes.{IsHome, AreHomes, classes_at}
+use Rattle.policy_core.proofs.Prelude.{List, ◌≡◌, ℕ, ap, sym, subst, [], ◌∷◌, refl, map, AllZip, graph_of, Name, declared, class_name, Declared, classes_in, AreClassesOf, IsLeafFor, Entry, node, class, version, each, keep, pop, push, transaction, Tree, IsTreeOf, rows, row_at, AreHomes, IsHome, classes_at, node_numbered, nodes_at}
+use Rattle.policy_text_defs.specs.Sense.{leaf}
 use Rattle.policy_core.proofs.PlaceRows.{IsNodeAt, node-of_row}
 
 -- the declared classes have the declared names

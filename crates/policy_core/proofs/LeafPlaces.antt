@@ -1,16 +1,6 @@
 -- Setting a leaf at the indices of the classes that it lists.
-use Rattle.std.proofs.Common.{◌≡◌, ◌≢◌, ◌⊎◌, ℕ, ◌+◌, ◌<◌, ◌||◌, ◌∙◌, true, false, List, [], length, take, set, get_or, slice_index, sym, ap, subst, arith, inl, inr, true≢false, position, Some, None, if◌then◌else◌}
-use Rattle.std.proofs.lemmas.Bool.{cases_Bool}
-use Rattle.std.proofs.lemmas.Slice.Eq.{bytes_eq-Decides}
-use Rattle.std.proofs.lemmas.List.{length-set, get_or-set_same, get_or-set_other}
-use Rattle.std.proofs.lemmas.List.Folds.{list_any_more, list_any_at}
+use Rattle.policy_core.proofs.Prelude.{List, ◌≡◌, ℕ, ap, sym, subst, [], ◌∙◌, arith, length, ◌<◌, get_or, true, Some, None, inl, inr, ◌+◌, take, false, true≢false, ◌||◌, slice_index, ◌≢◌, ◌⊎◌, if◌then◌else◌, position, set, or-true, or-false, cases_Bool, get_or-set_other, get_or-set_same, length-set, list_any_at, list_any_more, bytes_eq-Decides, bytes_eq, place-within, at-place, found, Name, has, place, ArePut}
 use Rattle.std.proofs.lemmas.List.Quantifiers.{position-Some}
-use Rattle.std.proofs.Math.Bool.{or-true, or-false}
-use Rattle.std.specs.Str.{bytes_eq}
-use Rattle.policy_rules.specs.Names.{Name, has}
-use Rattle.policy_rules.specs.Programs.{place}
-use Rattle.policy_rules.proofs.PlaceLaws.{found, place-within, at-place}
-use Rattle.policy_core.specs.Homes.{ArePut}
 use Rattle.policy_core.proofs.PlacePrograms.{none-some, some-same}
 
 -- names with the same index are equal

@@ -1,15 +1,7 @@
 -- A fact about a name as one about its number, and the first line in error.
-use Rattle.std.proofs.Common.{◌≡◌, ℕ, ◌<◌, ◌≤◌, ◌⊎◌, ◌↔◌, true, List, length, refl, sym, ap, subst, ◌∙◌, arith, inl, inr, get_or, Option, None, Some, is_some, Contains, IsSomeAnd}
-use Rattle.std.proofs.lemmas.Bool.{cases_order}
-use Rattle.std.proofs.lemmas.List.{get_or-map, get_or_default}
+use Rattle.policy_core.proofs.Prelude.{List, ◌≡◌, ℕ, ap, sym, subst, ◌∙◌, arith, length, ◌<◌, refl, get_or, true, Some, None, Option, inl, inr, ◌≤◌, Contains, is_some, ◌⊎◌, ◌↔◌, cases_order, get_or_default, IsSomeAnd, NoLine, IsLeastLine, AreRising, Name, declared, node_name, has, place, Entry, IsLeast, node_entries, line_at}
+use Rattle.std.proofs.lemmas.List.{get_or-map}
 use Rattle.std.proofs.lemmas.List.Kept.{AllPairs-filter}
-use Rattle.policy_text_defs.specs.Sense.{Entry}
-use Rattle.policy_rules.specs.Names.{Name, has, node_name, declared}
-use Rattle.policy_rules.specs.Clauses.{IsLeastLine, NoLine}
-use Rattle.policy_rules.specs.Entries.{AreRising}
-use Rattle.policy_rules.specs.Programs.{place}
-use Rattle.tree_graph.specs.Descent.{IsLeast}
-use Rattle.policy_core.specs.Lines.{node_entries, line_at}
 use Rattle.policy_core.proofs.NumberedPlaces.{has-there}
 use Rattle.policy_core.proofs.Kinship.{IsNodeAt, node-of, node-at, node-was, name-at, name_of, some-name, length-names}
 use Rattle.policy_core.proofs.FamilyNames.{IsNamed, some-entry}

@@ -1,3 +1,4 @@
+pub mod Prelude
 pub mod NumberedAddresses
 pub mod Rows
 pub mod RowTrees

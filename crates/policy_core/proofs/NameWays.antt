@@ -1,13 +1,7 @@
 -- The paths of names down a tree.
-use Rattle.std.proofs.Common.{◌≡◌, ℕ, zero, suc, ◌<◌, ◌∙◌, ◌++◌, true, List, [], ◌∷◌, length, get_or, refl, sym, ap, subst, arith, Option, Some, Any}
-use Rattle.std.specs.Prelude.{IsSomeAnd}
-use Rattle.tree_defs.specs.Tree.{Tree, leaf as leaf_of, inner, Trees, none, more, Address, root_of}
-use Rattle.policy_text_defs.specs.Sense.{Sense, Entry}
-use Rattle.policy_defs.specs.Policy.{Node, node_at, node_below}
-use Rattle.policy_rules.specs.Names.{Name, has, declared, node_name, children}
-use Rattle.policy_rules.specs.Clauses.{NoLine}
-use Rattle.policy_rules.specs.Families.{NamesLead, IsDescendant, IsCyclic}
-use Rattle.policy_rules.specs.Resolved.{IsLeafOf, IsInnerOf, IsTreeIn, AreTreesIn, names_of}
+use Rattle.policy_core.proofs.Prelude.{List, ◌≡◌, ℕ, ap, sym, subst, [], ◌∙◌, arith, length, ◌<◌, ◌∷◌, refl, get_or, suc, true, Some, zero, ◌++◌, Option, Any, IsSomeAnd, Node, node_at, node_below, NoLine, IsCyclic, IsDescendant, NamesLead, Name, declared, node_name, has, IsTreeIn, AreTreesIn, IsInnerOf, IsLeafOf, names_of, Entry, Sense, Tree, Trees, inner, more, none, Address, root_of}
+use Rattle.tree_defs.specs.Tree.{leaf as leaf_of}
+use Rattle.policy_rules.specs.Names.{children}
 use Rattle.policy_core.proofs.PlacePrograms.{none-some, some-same}
 use Rattle.policy_core.proofs.Statements.{declared-there}
 use Rattle.policy_core.proofs.OneTree.{leaf-name, inner-name, inner-children}

@@ -1,11 +1,5 @@
 -- The name at a number is the name at its address.
-use Rattle.std.proofs.Common.{◌≡◌, ℕ, Option, Some, None, List, [], sym, ap, subst, ◌∙◌}
-use Rattle.std.specs.Prelude.{IsSomeAnd}
-use Rattle.std.specs.Option.{option_map_or}
-use Rattle.tree_defs.specs.Tree.{Address, IsAddressOf}
-use Rattle.policy_defs.specs.Policy.{Policy, Node, node_at, name_at}
-use Rattle.policy_defs.specs.Numbers.{number_at}
-use Rattle.policy_core.specs.Numbering.{address_at}
+use Rattle.policy_core.proofs.Prelude.{List, ◌≡◌, ℕ, ap, sym, subst, [], ◌∙◌, Some, None, Option, option_map_or, IsSomeAnd, number_at, Node, node_at, Policy, name_at, Address, IsAddressOf, address_at}
 use Rattle.policy_core.proofs.NumberedAddresses.{IsNumber, number-undone}
 
 named : (found : Option Node) (name : List ℕ) → IsSomeAnd found (λ n. name ≡ n.name) → name ≡ option_map_or (λ (n : Node). n.name) found []

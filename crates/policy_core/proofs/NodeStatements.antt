@@ -1,10 +1,6 @@
 -- The statements of nodes and leaves, by number.
-use Rattle.std.proofs.Common.{◌≡◌, ℕ, zero, suc, ◌<◌, ◌∙◌, List, [], ◌∷◌, length, get_or, refl, sym, ap, arith, Some, None, filter_map, map}
-use Rattle.std.specs.List.{cons_option}
-use Rattle.policy_text_defs.specs.Sense.{Sense, Entry, version, transaction, keep, each, push, pop, class, leaf, node}
-use Rattle.policy_defs.specs.Policy.{Node}
-use Rattle.policy_rules.specs.Names.{Name, node_name, declared}
-use Rattle.policy_rules.specs.Graph.{family, node_in}
+use Rattle.policy_core.proofs.Prelude.{List, ◌≡◌, ℕ, ap, sym, [], ◌∙◌, arith, length, ◌<◌, ◌∷◌, refl, get_or, suc, Some, map, zero, None, filter_map, cons_option, Node, family, node_in, Name, declared, node_name, Entry, Sense, node, class, version, each, keep, pop, push, transaction}
+use Rattle.policy_text_defs.specs.Sense.{leaf}
 
 abbrev pub families : List Entry → List (List Name)
 families es = filter_map (λ e. family e.1) es

@@ -1,14 +1,7 @@
 -- Numbers and addresses determine each other in any tree, and a tree built from a topology has the
 -- expected nodes at them.
-use Rattle.std.proofs.Common.{◌≡◌, ℕ, zero, suc, ◌+◌, ◌-◌, ◌<◌, [], ◌∷◌, Some, None, refl, sym, ap, subst, ◌∙◌, arith, inl, inr, nat_lt}
-use Rattle.std.proofs.lemmas.Bool.{cases_lt, lt-ltb, le-ltb}
-use Rattle.std.specs.Prelude.{if◌then◌else◌}
-use Rattle.tree_defs.specs.Tree.{Tree, leaf, inner, Trees, none, more, Address, nodes, nodes_below, subtree, subtree_in, IsAddressOf}
-use Rattle.tree_defs.specs.Topology.{Topology, topology_of, topologies_of}
-use Rattle.tree_defs.proofs.Shapes.{nodes-topology}
-use Rattle.policy_defs.specs.Policy.{Node, node_at, node_below}
-use Rattle.policy_defs.specs.Numbers.{number_at, number_below}
-use Rattle.policy_core.specs.Numbering.{nodes_from, nodes_from_below, sibling_of, address_at, address_below}
+use Rattle.policy_core.proofs.Prelude.{◌≡◌, ℕ, ap, sym, subst, [], ◌∙◌, arith, ◌<◌, ◌∷◌, refl, suc, Some, zero, None, inl, inr, ◌+◌, if◌then◌else◌, ◌-◌, nat_lt, cases_lt, le-ltb, lt-ltb, number_at, number_below, Node, node_at, node_below, nodes-topology, topology_of, Topology, topologies_of, Tree, Trees, inner, more, none, Address, nodes, nodes_below, IsAddressOf, subtree_in, subtree, address_at, nodes_from, address_below, nodes_from_below, sibling_of}
+use Rattle.tree_defs.specs.Tree.{leaf}
 
 -- ---- the sibling whose subtree has a number
 module _ {Q : Type 0} (t : Tree Q) (ts : Trees Q) where

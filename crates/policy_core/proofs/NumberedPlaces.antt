@@ -1,14 +1,6 @@
 -- Indices of names.
-use Rattle.std.proofs.Common.{◌≡◌, ℕ, zero, suc, ◌<◌, Bool, true, List, [], ◌∷◌, length, refl, sym, ap, subst, ◌∙◌, arith, Contains, get_or, map, None, Some, position}
-use Rattle.std.proofs.lemmas.Bool.{and_parts}
-use Rattle.std.proofs.lemmas.List.Elements.{Contains-append_right}
+use Rattle.policy_core.proofs.Prelude.{List, ◌≡◌, ℕ, ap, sym, subst, [], ◌∙◌, arith, length, ◌<◌, ◌∷◌, refl, get_or, suc, true, Some, map, zero, None, Bool, Contains, position, and_parts, length-map, Contains-append_right, list_all, IsDistinct, bytes_eq, has-at, found, place-at, Name, has, place}
 use Rattle.std.proofs.Math.ListN.{get_or-map}
-use Rattle.std.specs.List.{IsDistinct, list_all}
-use Rattle.std.specs.Str.{bytes_eq}
-use Rattle.std.proofs.lemmas.List.{length-map}
-use Rattle.policy_rules.specs.Names.{Name, has}
-use Rattle.policy_rules.specs.Programs.{place}
-use Rattle.policy_rules.proofs.PlaceLaws.{found, has-at, place-at}
 
 -- a name in the list has an index
 pub not-found : (names : List Name) (a : Name) → position (bytes_eq a) names ≡ None → has names a ≡ true → ⊥

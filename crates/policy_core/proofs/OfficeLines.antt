@@ -1,19 +1,12 @@
 -- Statements in memory that are those of the office.
-use Rattle.std.proofs.Common.{◌≡◌, ◌<◌, ◌^◌, ◌∙◌, List, [], ◌∷◌, ◌++◌, append_assoc, refl, ap, subst, map, length, get_or, arith, All}
-use Rattle.std.proofs.lemmas.List.{get_or-map, length-map}
-use Rattle.std.proofs.lemmas.List.Elements.{All-from_recursion, All-same}
-use Rattle.policy_text_defs.specs.declared.statement.Statement.{Statement}
-use Rattle.policy_text_defs.specs.Sense.{Sense, Entry, sense_of, numbered}
+use Rattle.policy_core.proofs.Prelude.{List, ◌≡◌, ap, subst, [], ◌∙◌, arith, length, ◌<◌, ◌∷◌, refl, get_or, map, ◌++◌, append_assoc, ◌^◌, length-map, All-from_recursion, All-same, IsFault, entries_of, PolicyFault, NoMemory, Entry, Sense, sense_of, IsValid, Statement, office_lines, office_statements}
+use Rattle.std.proofs.Common.{All}
+use Rattle.std.proofs.lemmas.List.{get_or-map}
+use Rattle.policy_text_defs.specs.Sense.{numbered}
 use Rattle.policy_text_defs.specs.Text.{IsWritten}
-use Rattle.policy_text_defs.specs.Valid.{IsValid}
 use Rattle.policy_text_defs.proofs.CanonicalLaws.{IsValid_IsWritten}
 use Rattle.policy_text.specs.Entries.{Numbered, entry_of}
-use Rattle.policy_rules.specs.Entries.{entries_of}
-use Rattle.policy_rules.specs.Accepted.{IsFault}
-use Rattle.policy_rules.specs.declared.fault.PolicyFault.{PolicyFault}
-use Rattle.policy_rules.specs.declared.fault.PolicyFault.TheVariants.{NoMemory}
 use Rattle.policy_rules.proofs.OneFault.{accepted-fault}
-use Rattle.policy_core.specs.Office.{office_statements, office_lines}
 use Rattle.policy_core.proofs.OfficeStatements.{office-valid, office-accepted}
 
 pub written : (ss : List Statement) → map sense_of ss ≡ office_statements → All (λ s. IsWritten (sense_of s)) ss

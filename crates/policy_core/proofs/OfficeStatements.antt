@@ -1,25 +1,9 @@
 -- The statements of the office can be written as lines, and fail no clause.
-use Rattle.std.proofs.Common.{◌≡◌, ◌≤◌, ◌<◌, ◌+◌, ◌∙◌, ℕ, zero, suc, Bool, true, not, nat_lt, if◌then◌else◌, List, [], ◌∷◌, refl, sym, ap, subst, arith, Option, Some, None, IsTrue, length, get_or}
-use Rattle.std.specs.Prelude.{IsSomeAnd, codes, ◌||◌, ◌&&◌, ◌==◌}
-use Rattle.std.specs.List.{list_all, AllByRecursion}
-use Rattle.std.specs.Option.{option_map_or}
-use Rattle.std.specs.Str.{bytes_eq}
-use Rattle.std.proofs.lemmas.Bool.{ltb-true}
-use Rattle.std.proofs.lemmas.List.Sums.{AllPass-from_list_all}
-use Rattle.std.proofs.lemmas.List.Elements.{All-contains}
-use Rattle.policy_text_defs.specs.declared.attribute.Attrs.{Attrs}
-use Rattle.policy_text_defs.specs.declared.condition.Condition.{Condition}
+use Rattle.policy_core.proofs.Prelude.{List, ◌≡◌, ℕ, ap, sym, subst, [], ◌∙◌, arith, length, ◌<◌, ◌∷◌, refl, get_or, suc, true, Some, zero, None, Option, ◌+◌, ◌≤◌, Bool, ◌||◌, not, IsTrue, if◌then◌else◌, ◌&&◌, nat_lt, ltb-true, All-contains, AllPass-from_list_all, AllByRecursion, list_all, option_map_or, IsSomeAnd, codes, ◌==◌, bytes_eq, NoLine, root, is_known, is_declared, is_not_listed_once, is_one_too_many, version_of, is_orphan, has_limit, is_placed, IsCyclic, IsDescendant, IsTooDeep, NamesLead, ListsChild, Name, node_name, before, leaf_classes, listed, Entry, Sense, node, class, version, unset, IsName, IsValid, AreValidAttributes, IsValidCondition, Attrs, Condition, Dest, Dport, Dscp, Proto, office_lines, backup_network, exactly, of_prio, of_weight, office_statements, tcp, udp, OfficeIsAccepted}
 use Rattle.policy_text_defs.specs.declared.condition.FieldName.{FieldName}
-use Rattle.policy_text_defs.specs.declared.condition.Condition.TheVariants.{Dest}
-use Rattle.policy_text_defs.specs.declared.condition.FieldName.TheVariants.{Dscp, Proto, Dport}
 use Rattle.policy_text_defs.specs.Ranges.{field_most}
-use Rattle.policy_text_defs.specs.Statements.{IsName, unset}
-use Rattle.policy_text_defs.specs.Valid.{IsValid, AreValidAttributes, IsValidCondition}
-use Rattle.policy_text_defs.specs.Sense.{Sense, Entry, version, class, leaf, node}
-use Rattle.policy_rules.specs.Names.{Name, before, listed, children, leaf_classes, node_name}
-use Rattle.policy_rules.specs.Clauses.{NoLine, is_placed, is_declared, is_known, is_one_too_many, is_orphan, is_not_listed_once, has_limit, version_of, root}
-use Rattle.policy_rules.specs.Families.{ListsChild, NamesLead, IsDescendant, IsCyclic, IsTooDeep}
-use Rattle.policy_core.specs.Office.{exactly, tcp, udp, backup_network, of_weight, of_prio, office_statements, office_lines, OfficeIsAccepted}
+use Rattle.policy_text_defs.specs.Sense.{leaf}
+use Rattle.policy_rules.specs.Names.{children}
 
 -- ---- each statement can be written
 no-attribute : AreValidAttributes unset

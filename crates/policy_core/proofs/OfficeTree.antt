@@ -1,20 +1,9 @@
 -- All policies that the statements of the office give have the same tree of nodes and the same
 -- number of classes.
-use Rattle.std.proofs.Common.{◌≡◌, ◌∙◌, suc, Bool, true≢false, true, false, not, List, [], ◌∷◌, refl, sym, ap, subst, length, get_or, drop, Any, IsTrue, arith}
-use Rattle.std.specs.Prelude.{codes, ◌||◌, ◌&&◌}
-use Rattle.std.specs.List.{list_all, AllByRecursion}
-use Rattle.std.specs.Str.{bytes_eq}
-use Rattle.std.proofs.lemmas.Bool.{and_parts}
-use Rattle.std.proofs.lemmas.List.Sums.{AllPass-from_list_all}
-use Rattle.std.proofs.lemmas.Slice.Eq.{bytes_eq-Decides}
-use Rattle.tree_defs.specs.Tree.{Tree, leaf as leaf_of, inner, Trees, none, more, root_of}
-use Rattle.tree_defs.specs.Topology.{Topology, topology_of, topologies_of, copies, complete}
-use Rattle.policy_defs.specs.Policy.{Node, Class}
-use Rattle.policy_text_defs.specs.Sense.{Sense, Entry, leaf, node}
-use Rattle.policy_rules.specs.Names.{Name}
-use Rattle.policy_rules.specs.Clauses.{root}
-use Rattle.policy_rules.specs.Resolved.{IsLeafOf, IsInnerOf, IsTreeIn, AreTreesIn, names_of, Declared, AreClassesOf, classes_in}
-use Rattle.policy_core.specs.Office.{office_lines, OfficesAreAlike}
+use Rattle.policy_core.proofs.Prelude.{List, ◌≡◌, ap, sym, subst, [], ◌∙◌, arith, length, ◌∷◌, refl, get_or, suc, true, false, Bool, true≢false, ◌||◌, Any, not, IsTrue, drop, ◌&&◌, and_parts, AllPass-from_list_all, bytes_eq-Decides, AllByRecursion, list_all, codes, bytes_eq, Node, root, Name, IsTreeIn, Declared, classes_in, AreTreesIn, IsInnerOf, IsLeafOf, names_of, AreClassesOf, Entry, Sense, node, topology_of, Topology, topologies_of, complete, copies, Tree, Trees, inner, more, none, root_of, office_lines, OfficesAreAlike}
+use Rattle.tree_defs.specs.Tree.{leaf as leaf_of}
+use Rattle.policy_defs.specs.Policy.{Class}
+use Rattle.policy_text_defs.specs.Sense.{leaf}
 
 -- ---- a name determines the shape of the tree below it
 abbrev HasShape : List Entry → Topology → Name → Type 0

@@ -1,18 +1,7 @@
 -- A name is at one address of a tree.
-use Rattle.std.proofs.Common.{◌≡◌, ℕ, zero, suc, ◌+◌, ◌<◌, ◌≤◌, ◌∙◌, ◌++◌, true, List, [], ◌∷◌, length, get_or, cond, refl, sym, ap, subst, arith, inl, inr, Some, Contains, length-append}
+use Rattle.policy_core.proofs.Prelude.{List, ◌≡◌, ℕ, ap, sym, subst, [], ◌∙◌, arith, length, ◌<◌, ◌∷◌, refl, get_or, suc, true, Some, zero, ◌++◌, inl, inr, ◌+◌, ◌≤◌, Contains, cond, length-append, eqb-true, cases_order, get_or_default, sum_by-cons, get_or-le-sum_by, bytes_eq-Decides, bytes_eq, Node, node_at, NoLine, root, IsOrphan, IsCyclic, Name, node_name, listed, is_once, IsTreeIn, Entry, Tree, Address, root_of}
 use Rattle.std.specs.List.{sum_by}
-use Rattle.std.specs.Str.{bytes_eq}
-use Rattle.std.proofs.lemmas.Bool.{cases_order, eqb-true}
-use Rattle.std.proofs.lemmas.List.{get_or_default}
-use Rattle.std.proofs.lemmas.List.Sums.{sum_by-cons, get_or-le-sum_by}
-use Rattle.std.proofs.lemmas.Slice.Eq.{bytes_eq-Decides}
-use Rattle.tree_defs.specs.Tree.{Tree, Address, root_of}
-use Rattle.policy_text_defs.specs.Sense.{Entry}
-use Rattle.policy_defs.specs.Policy.{Node, node_at}
-use Rattle.policy_rules.specs.Names.{Name, times, is_once, listed, node_name, children}
-use Rattle.policy_rules.specs.Clauses.{NoLine, IsOrphan, root}
-use Rattle.policy_rules.specs.Families.{IsCyclic}
-use Rattle.policy_rules.specs.Resolved.{IsTreeIn}
+use Rattle.policy_rules.specs.Names.{times, children}
 use Rattle.policy_rules.proofs.ListedOnce.{times-listed, one_lister, child-once}
 use Rattle.policy_core.proofs.PlacePrograms.{some-same}
 use Rattle.policy_core.proofs.Statements.{at-one_place}

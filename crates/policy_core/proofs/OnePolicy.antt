@@ -1,22 +1,11 @@
 -- Accepted statements give one policy.
-use Rattle.std.proofs.Common.{◌≡◌, ◌∙◌, true, List, [], ◌∷◌, map, get_or, refl, sym, ap, subst, Some, Any, Contains}
-use Rattle.std.proofs.lemmas.List.{get_or_default}
-use Rattle.std.proofs.lemmas.List.Elements.{recursion_from_All}
-use Rattle.std.specs.List.{AllByRecursion}
-use Rattle.tree_defs.specs.Tree.{Tree, Address, root_of}
-use Rattle.policy_text_defs.specs.declared.condition.Condition.{Condition}
-use Rattle.policy_text_defs.specs.Sense.{Sense, Entry, version, transaction, keep, each, push, pop, class, leaf, node}
-use Rattle.policy_defs.specs.Policy.{Node, Class, Marks}
-use Rattle.policy_rules.specs.Names.{Name, has, declared, node_name, class_name, leaf_classes}
-use Rattle.policy_rules.specs.Clauses.{NoLine, IsRepeated, IsOrphan, IsNotListedOnce, root}
-use Rattle.policy_rules.specs.Families.{IsCyclic}
-use Rattle.policy_rules.specs.Accepted.{AreAccepted, HaveRoot, AreAcyclic, AreKnown}
-use Rattle.policy_rules.specs.Resolved.{Resolved, IsTreeIn, ListsClass, IsLeafFor, Declared, classes_in, AreClassesOf}
+use Rattle.policy_core.proofs.Prelude.{List, ◌≡◌, ap, sym, subst, [], ◌∙◌, ◌∷◌, refl, get_or, true, Some, map, Contains, Any, get_or_default, recursion_from_All, AllByRecursion, Node, Marks, has-at, AreAccepted, AreAcyclic, HaveRoot, AreKnown, NoLine, root, IsRepeated, IsNotListedOnce, IsOrphan, IsCyclic, Name, declared, node_name, has, class_name, leaf_classes, IsTreeIn, Declared, Resolved, classes_in, AreClassesOf, IsLeafFor, ListsClass, Entry, Sense, node, class, version, each, keep, pop, push, transaction, Condition, Tree, Address, root_of}
+use Rattle.policy_text_defs.specs.Sense.{leaf}
+use Rattle.policy_defs.specs.Policy.{Class}
 use Rattle.policy_rules.proofs.ListedOnce.{class-one_leaf}
 use Rattle.policy_core.proofs.AcceptedStatements.{strays-none}
 use Rattle.policy_core.proofs.PlacePrograms.{some-same}
 use Rattle.policy_core.proofs.LeafClasses.{names-classes}
-use Rattle.policy_rules.proofs.PlaceLaws.{has-at}
 use Rattle.policy_core.specs.TextLaws.{StatementsGiveOnePolicy}
 use Rattle.policy_core.proofs.Statements.{at-one_place}
 use Rattle.policy_core.proofs.OneTree.{one-tree}

@@ -1,14 +1,8 @@
 -- Two trees with the same root are equal.
-use Rattle.std.proofs.Common.{◌≡◌, ℕ, suc, ◌∙◌, List, [], length, drop, get_or, refl, sym, ap, arith, Option, Some, None, Any}
-use Rattle.tree_defs.specs.Tree.{Tree, leaf as leaf_of, inner, Trees, none, more, root_of}
-use Rattle.rank_defs.specs.Programs.{Program}
-use Rattle.policy_text_defs.specs.declared.attribute.Attrs.{Attrs}
-use Rattle.policy_text_defs.specs.Sense.{Sense, Entry, version, transaction, keep, each, push, pop, class, leaf, node}
-use Rattle.policy_defs.specs.Policy.{Node, Marks}
-use Rattle.policy_rules.specs.Names.{Name, node_name, children}
-use Rattle.policy_rules.specs.Clauses.{NoLine, IsRepeated}
-use Rattle.policy_rules.specs.Entries.{AreRising}
-use Rattle.policy_rules.specs.Resolved.{IsNodeOf, IsLeafOf, IsInnerOf, IsTreeIn, AreTreesIn, names_of}
+use Rattle.policy_core.proofs.Prelude.{List, ◌≡◌, ℕ, ap, sym, [], ◌∙◌, arith, length, refl, get_or, suc, Some, None, Option, Any, drop, Node, Marks, NoLine, IsRepeated, AreRising, Name, node_name, IsTreeIn, AreTreesIn, IsInnerOf, IsLeafOf, names_of, IsNodeOf, Entry, Sense, node, class, version, each, keep, pop, push, transaction, Attrs, Program, Tree, Trees, inner, more, none, root_of}
+use Rattle.tree_defs.specs.Tree.{leaf as leaf_of}
+use Rattle.policy_text_defs.specs.Sense.{leaf}
+use Rattle.policy_rules.specs.Names.{children}
 use Rattle.policy_core.proofs.PlacePrograms.{some-same}
 use Rattle.policy_core.proofs.Statements.{of-one_statement}
 

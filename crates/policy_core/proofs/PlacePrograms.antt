@@ -1,15 +1,7 @@
 -- The programs that names of transactions denote.
-use Rattle.std.proofs.Common.{◌≡◌, ◌||◌, ◌∙◌, Bool, true, false, cond, List, [], ◌∷◌, map, refl, sym, ap, subst, inl, inr, true≢false, Option, Some, None, is_some, unwrap_or, find, option_map}
-use Rattle.std.proofs.lemmas.Bool.{cases_Bool}
-use Rattle.std.specs.List.{AllByRecursion}
-use Rattle.std.specs.Str.{bytes_eq}
-use Rattle.rank_defs.specs.Programs.{Program}
-use Rattle.rank_defs.specs.Builtins.{Builtin, builtin, builtins, same_name, fifo}
-use Rattle.policy_text_defs.specs.Sense.{Entry, version, transaction, keep, each, push, pop, class, leaf, node}
-use Rattle.policy_rules.specs.Names.{Name, has, declared, transaction_name}
+use Rattle.policy_core.proofs.Prelude.{List, ◌≡◌, ap, sym, subst, [], ◌∙◌, ◌∷◌, refl, true, Some, map, None, Option, inl, inr, false, Bool, true≢false, ◌||◌, cond, is_some, unwrap_or, find, option_map, cases_Bool, AllByRecursion, bytes_eq, is_transaction_known, Name, declared, has, transaction_name, programs, body_named, or_written, program_named, program_in, Entry, node, class, version, each, keep, pop, push, transaction, Builtin, builtin, builtins, fifo, same_name, Program}
+use Rattle.policy_text_defs.specs.Sense.{leaf}
 use Rattle.policy_rules.specs.Bodies.{Body, bodies}
-use Rattle.policy_rules.specs.Clauses.{is_transaction_known}
-use Rattle.policy_rules.specs.Programs.{program_in, programs, body_named, or_written, program_named}
 
 pub none-some : {X : Type 0} {x : X} → None ≡ Some x → ⊥
 none-some e = cc

@@ -1,13 +1,8 @@
 -- The nodes and leaves at the addresses of rows.
-use Rattle.std.proofs.Common.{◌≡◌, ℕ, zero, suc, ◌+◌, ◌-◌, ◌<◌, ◌∙◌, [], ◌∷◌, ◌++◌, length, refl, sym, ap, subst, arith, inl, inr, append_assoc, append-nil, length-append, Some}
-use Rattle.std.proofs.lemmas.Bool.{cases_lt}
-use Rattle.tree_defs.specs.Tree.{Tree, leaf, inner, Trees, none, more, Address, nodes, LeadsToLeaf, LeadsBelow}
-use Rattle.policy_defs.specs.Policy.{Node, node_at, node_below}
-use Rattle.tree_graph.specs.Descent.{Graph, children}
-use Rattle.tree_graph.specs.Row.{Row, row_at}
-use Rattle.tree_graph.specs.Preorder.{labels, IsTreeOf, AreTreesOf, rows, rows_below}
+use Rattle.policy_core.proofs.Prelude.{◌≡◌, ℕ, ap, sym, subst, [], ◌∙◌, arith, length, ◌<◌, ◌∷◌, refl, suc, Some, zero, ◌++◌, inl, inr, ◌+◌, length-append, append-nil, append_assoc, ◌-◌, cases_lt, Node, node_at, node_below, Tree, Trees, inner, more, none, Address, nodes, LeadsToLeaf, LeadsBelow, Graph, IsTreeOf, rows, AreTreesOf, labels, rows_below, Row, row_at, map_tree, map_trees}
+use Rattle.tree_defs.specs.Tree.{leaf}
+use Rattle.tree_graph.specs.Descent.{children}
 use Rattle.tree_graph.proofs.PreorderLaws.{at-first, at-second}
-use Rattle.policy_core.specs.Labels.{map_tree, map_trees}
 
 -- a row's address leads from a node to the row's own, which is a leaf if it has no children in the
 -- graph

@@ -1,25 +1,7 @@
 -- Consequences of the parts of a policy for its value.
-use Rattle.std.proofs.Common.{◌≡◌, ℕ, ◌<◌, ◌≤◌, ◌↔◌, Bool, List, [], ◌∷◌, ◌++◌, length, Option, Some, sym, ap, subst, ◌∙◌, arith, zero, suc, get_or}
-use Rattle.std.specs.Prelude.{IsSomeAnd, IsTrue}
-use Rattle.std.specs.List.{AllByRecursion}
-use Rattle.std.proofs.lemmas.List.{get_or_default}
-use Rattle.tree_defs.specs.Tree.{Tree, Address, nodes, depth, IsAddressOf, LeadsToLeaf, most_nodes}
-use Rattle.tree_defs.specs.Topology.{Topology, topology_of}
-use Rattle.tree_defs.proofs.Shapes.{nodes-topology, depth-topology, LeadsToLeaf-topology}
-use Rattle.rank_defs.specs.Programs.{Program}
-use Rattle.policy_defs.specs.Policy.{Node, node_at}
-use Rattle.policy_defs.specs.Accepted.{IsAccepted}
-use Rattle.text_core.specs.Tokens.{most_name}
-use Rattle.policy_defs.specs.Numbers.{number_at}
-use Rattle.policy_rules.specs.Resolved.{Resolved}
-use Rattle.policy_rules.proofs.Lists.{all-weaker}
-use Rattle.tree_graph.specs.Row.{Row, row, row_at}
+use Rattle.policy_core.proofs.Prelude.{List, ◌≡◌, ℕ, ap, sym, subst, [], ◌∙◌, arith, length, ◌<◌, ◌∷◌, get_or, suc, Some, zero, ◌++◌, Option, ◌≤◌, Bool, IsTrue, ◌↔◌, get_or_default, AllByRecursion, IsSomeAnd, IsAccepted, number_at, Node, node_at, all-weaker, Resolved, Program, most_name, nodes-topology, depth-topology, LeadsToLeaf-topology, topology_of, Topology, Tree, Address, nodes, depth, IsAddressOf, most_nodes, LeadsToLeaf, length-rows, Row, row_at, row, address_at, no_program, no_station, node_of, resolved, station_at, tree_of, AreNumbered, IsWhole, told, PolicyNode}
 use Rattle.tree_graph.specs.Preorder.{Numbered}
-use Rattle.tree_graph.proofs.GrowthLemmas.{length-rows}
-use Rattle.policy_core.specs.declared.parts.PolicyNode.{PolicyNode}
 use Rattle.policy_core.specs.declared.parts.Class.{Class}
-use Rattle.policy_core.specs.Numbering.{address_at}
-use Rattle.policy_core.specs.Parts.{resolved, tree_of, node_of, station_at, no_station, no_program, told, AreNumbered, IsWhole}
 use Rattle.policy_core.proofs.NumberedAddresses.{IsAddress, address-undone, address_at-topology, address-down, address-up, topology_of-nodes, node_numbered}
 use Rattle.policy_core.proofs.Rows.{IsRowAt, row-numbered}
 

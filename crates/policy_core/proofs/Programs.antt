@@ -1,16 +1,6 @@
 -- The program at the index of a name.
-use Rattle.std.proofs.Common.{◌≡◌, ◌<◌, ℕ, zero, suc, true, true≢false, Option, Some, None, List, [], ◌∷◌, sym, ◌∙◌, length, slice_index_or, arith}
-use Rattle.std.specs.Prelude.{slice_get, is_some, unwrap_or}
-use Rattle.std.specs.Option.{option_and_then}
-use Rattle.rank_defs.specs.Builtins.{fifo}
-use Rattle.policy_text_defs.specs.Sense.{Entry}
-use Rattle.policy_rules.specs.Names.{Name}
-use Rattle.policy_rules.specs.Clauses.{is_transaction_known}
-use Rattle.policy_rules.specs.Programs.{program_named}
-use Rattle.policy_rules.specs.Known.{known_programs}
+use Rattle.policy_core.proofs.Prelude.{List, ◌≡◌, ℕ, sym, [], ◌∙◌, arith, length, ◌<◌, ◌∷◌, suc, true, Some, zero, None, Option, true≢false, is_some, unwrap_or, slice_index_or, option_and_then, slice_get, is_transaction_known, known_programs, Name, program_named, Entry, fifo, IsPlaceOf, no_program}
 use Rattle.policy_core.proofs.PlacePrograms.{program-there}
-use Rattle.policy_core.specs.Made.{IsPlaceOf}
-use Rattle.policy_core.specs.Parts.{no_program}
 
 -- the value found is at the index
 record IsGot {X : Type 0} (xs : List X) (i : ℕ) (d x : X) : Type 0 where

@@ -1,24 +1,10 @@
 -- The tree of nodes that statements declare, from the tree of their numbers.
-use Rattle.std.proofs.Common.{◌≡◌, ℕ, suc, ◌<◌, ◌∙◌, true, List, [], ◌∷◌, length, map, get_or, refl, sym, ap, subst, arith, IsTrue, Option, Some, None, All}
-use Rattle.std.proofs.lemmas.Bool.{and_parts}
-use Rattle.std.specs.List.{list_all, AllByRecursion}
+use Rattle.policy_core.proofs.Prelude.{List, ◌≡◌, ℕ, ap, sym, subst, [], ◌∙◌, arith, length, ◌<◌, ◌∷◌, refl, get_or, suc, true, Some, map, None, Option, IsTrue, and_parts, AllByRecursion, list_all, Node, place-within, at-place, at-places, AreAccepted, NoLine, root, IsUnknown, is_known, is_transaction_known, graph_of, nodes_in, family, node_in, said, Name, declared, node_name, has, before, place, IsTreeIn, AreTreesIn, IsInnerOf, IsLeafOf, names_of, IsNodeOf, Entry, Sense, node, class, version, each, keep, pop, push, transaction, IsValid, Attrs, Tree, Trees, inner, more, none, root_of, IsTreeOf, AreTreesOf, labels, map_tree, map_trees, node_numbered, nodes_at, AreValid, IsNodeTree}
+use Rattle.std.proofs.Common.{All}
 use Rattle.std.proofs.Math.ListN.{get_or-map}
-use Rattle.tree_defs.specs.Tree.{Tree, leaf as leaf_of, inner, Trees, none, more, root_of}
-use Rattle.policy_text_defs.specs.declared.attribute.Attrs.{Attrs}
-use Rattle.policy_text_defs.specs.Sense.{Sense, Entry, version, transaction, keep, each, push, pop, class, leaf, node}
-use Rattle.policy_text_defs.specs.Valid.{IsValid}
-use Rattle.policy_defs.specs.Policy.{Node}
-use Rattle.policy_rules.specs.Names.{Name, has, node_name, declared, before}
-use Rattle.policy_rules.specs.Clauses.{NoLine, IsUnknown, is_known, is_transaction_known, root}
-use Rattle.policy_rules.specs.Programs.{place}
-use Rattle.policy_rules.specs.Graph.{family, graph_of, node_in, nodes_in, said}
-use Rattle.policy_rules.specs.Resolved.{IsNodeOf, IsLeafOf, IsInnerOf, IsTreeIn, AreTreesIn, names_of}
+use Rattle.tree_defs.specs.Tree.{leaf as leaf_of}
+use Rattle.policy_text_defs.specs.Sense.{leaf}
 use Rattle.tree_graph.specs.Descent.{children}
-use Rattle.tree_graph.specs.Preorder.{labels, IsTreeOf, AreTreesOf}
-use Rattle.policy_rules.specs.Accepted.{AreAccepted}
-use Rattle.policy_core.specs.PlaceLaws.{AreValid, IsNodeTree}
-use Rattle.policy_core.specs.Labels.{map_tree, map_trees, node_numbered, nodes_at}
-use Rattle.policy_rules.proofs.PlaceLaws.{place-within, at-place, at-places}
 use Rattle.policy_core.proofs.NodeStatements.{families, IsStated, stated, names-nodes}
 use Rattle.policy_core.proofs.PlacePrograms.{none-some, some-same, program-there}
 use Rattle.policy_core.proofs.AcceptedStatements.{known-at, known-there, root-there}

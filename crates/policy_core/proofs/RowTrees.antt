@@ -1,14 +1,6 @@
 -- A tree built from the contents of rows.
-use Rattle.std.proofs.Common.{◌≡◌, ℕ, suc, ◌+◌, ◌<◌, List, [], ◌∷◌, ◌++◌, length, refl, ap, ◌∙◌, arith}
-use Rattle.std.proofs.lemmas.List.{get_or_append_left, get_or-append-add}
-use Rattle.tree_defs.specs.Tree.{Tree, leaf, inner, Trees, none, more, Address, nodes, nodes_below}
-use Rattle.tree_defs.specs.Topology.{topology_of, topologies_of}
-use Rattle.tree_defs.proofs.Shapes.{nodes-topology}
-use Rattle.tree_graph.specs.Row.{Row, row, row_at}
-use Rattle.tree_graph.specs.Preorder.{rows, rows_below}
-use Rattle.tree_graph.proofs.GrowthLemmas.{length-rows}
-use Rattle.policy_core.specs.Numbering.{nodes_from, nodes_from_below}
-use Rattle.policy_core.specs.Labels.{map_tree, map_trees}
+use Rattle.policy_core.proofs.Prelude.{List, ◌≡◌, ℕ, ap, [], ◌∙◌, arith, length, ◌<◌, ◌∷◌, refl, suc, ◌++◌, ◌+◌, get_or-append-add, get_or_append_left, nodes-topology, topology_of, topologies_of, Tree, Trees, inner, more, none, Address, nodes, nodes_below, length-rows, rows, rows_below, Row, row_at, row, map_tree, map_trees, nodes_from, nodes_from_below}
+use Rattle.tree_defs.specs.Tree.{leaf}
 
 -- a function of numbers agrees with a function of nodes on rows; the first row has number n
 abbrev Agrees : {Q : Type 0} → (ℕ → Q) → (ℕ → Q) → ℕ → List Row → ℕ → Type 0

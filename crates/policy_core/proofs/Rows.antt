@@ -1,12 +1,6 @@
 -- The rows of a tree are in the order of the numbers, each with the address of its number.
-use Rattle.std.proofs.Common.{◌≡◌, ℕ, zero, suc, ◌+◌, ◌-◌, ◌<◌, List, [], ◌∷◌, ◌++◌, length, Some, None, sym, ap, subst, ◌∙◌, arith, inl, inr, append_assoc, append-nil}
-use Rattle.std.proofs.lemmas.Bool.{cases_lt}
-use Rattle.std.proofs.lemmas.List.{get_or_append_left, get_or-append-add}
-use Rattle.tree_defs.specs.Tree.{Tree, leaf, inner, Trees, none, more, Address, nodes, nodes_below, subtree_in, IsAddressOf}
-use Rattle.tree_graph.specs.Row.{Row, row, row_at}
-use Rattle.tree_graph.specs.Preorder.{starts, rows, rows_below}
-use Rattle.tree_graph.proofs.GrowthLemmas.{length-rows}
-use Rattle.policy_core.specs.Numbering.{address_at, sibling_of, address_below}
+use Rattle.policy_core.proofs.Prelude.{List, ◌≡◌, ℕ, ap, sym, subst, [], ◌∙◌, arith, length, ◌<◌, ◌∷◌, suc, Some, zero, None, ◌++◌, inl, inr, ◌+◌, append-nil, append_assoc, ◌-◌, cases_lt, get_or-append-add, get_or_append_left, Tree, Trees, inner, more, none, Address, nodes, nodes_below, IsAddressOf, subtree_in, length-rows, rows, rows_below, starts, Row, row_at, row, address_at, address_below, sibling_of}
+use Rattle.tree_defs.specs.Tree.{leaf}
 use Rattle.policy_core.proofs.NumberedAddresses.{sibling-first, way-first, sibling-later, way-later}
 
 -- a row has this address, and a child at each digit that leads on

@@ -1,9 +1,6 @@
 -- The tree below a node of a graph, numbered.
-use Rattle.std.proofs.Common.{◌≡◌, ℕ, List, [], sym, ap, ◌∙◌}
-use Rattle.tree_defs.specs.Tree.{Tree, root_of}
-use Rattle.tree_defs.specs.Topology.{Topology, topology_of}
-use Rattle.tree_graph.specs.Descent.{Graph}
-use Rattle.tree_graph.specs.Preorder.{IsTreeOf, IsTreeBelow, Numbered, numbered, rows}
+use Rattle.policy_core.proofs.Prelude.{List, ◌≡◌, ℕ, ap, sym, [], ◌∙◌, topology_of, Topology, Tree, root_of, Graph, IsTreeOf, rows, IsTreeBelow}
+use Rattle.tree_graph.specs.Preorder.{Numbered, numbered}
 use Rattle.tree_graph.proofs.OneTree.{one-tree}
 
 pub tree-below : (g : Graph) (root : ℕ) (t : Tree ℕ) (p : Numbered) → IsTreeOf g t → root_of t ≡ root → IsTreeBelow g root p → p ≡ numbered (rows 0 [] t) (topology_of t)

@@ -1,8 +1,6 @@
 -- A tree keeps its shape if only the values at its nodes change.
-use Rattle.std.proofs.Common.{◌≡◌, ◌+◌, max, refl, ap, ap₂}
-use Rattle.tree_defs.specs.Tree.{Tree, leaf, inner, Trees, none, more, nodes, nodes_below, depth, depth_below}
-use Rattle.tree_defs.specs.Topology.{topology_of, topologies_of}
-use Rattle.policy_core.specs.Labels.{map_tree, map_trees}
+use Rattle.policy_core.proofs.Prelude.{◌≡◌, ap, refl, ◌+◌, ap₂, max, topology_of, topologies_of, Tree, Trees, inner, more, none, nodes, depth, nodes_below, depth_below, map_tree, map_trees}
+use Rattle.tree_defs.specs.Tree.{leaf}
 
 mutual
   pub nodes-map : {Q R : Type 0} (f : Q → R) (t : Tree Q) → nodes (map_tree f t) ≡ nodes t

@@ -1,33 +1,17 @@
 -- Accepted statements give a policy: the tree of their graph below the root, and for each class the
 -- leaf that lists it.
-use Rattle.std.proofs.Common.{◌≡◌, ℕ, suc, ◌<◌, ◌∙◌, true, List, [], ◌∷◌, length, get_or, map, refl, sym, ap, subst, arith, inl, inr, cond, nat_eq, Some, Any, Contains}
-use Rattle.std.specs.List.{AllByRecursion, AllZip}
-use Rattle.std.proofs.lemmas.Bool.{cases_Bool, eqb-true}
-use Rattle.std.proofs.lemmas.List.{get_or-map, length-map}
-use Rattle.std.proofs.lemmas.List.Elements.{recursion_from_All}
-use Rattle.std.proofs.lemmas.List.Sums.{sum_by-cons}
-use Rattle.tree_defs.specs.Tree.{Tree, most_levels}
-use Rattle.policy_text_defs.specs.Sense.{Sense, Entry, version, transaction, keep, each, push, pop, class, leaf, node}
-use Rattle.policy_rules.specs.Names.{Name, has, declared, node_name, class_name, children, leaf_classes}
-use Rattle.policy_rules.specs.Clauses.{root, version_of}
-use Rattle.policy_rules.specs.Entries.{AreRising}
-use Rattle.policy_rules.specs.Programs.{place}
-use Rattle.policy_rules.specs.Accepted.{AreAccepted}
-use Rattle.policy_rules.specs.Graph.{graph_of}
-use Rattle.policy_rules.specs.Resolved.{Resolved, Declared, IsResolved, ListsClass, classes_in}
-use Rattle.policy_rules.proofs.PlaceLaws.{has-at}
-use Rattle.tree_graph.specs.Descent.{IsForest, IsWithin, times}
-use Rattle.tree_graph.specs.Row.{Row, row, row_at, nodes_of}
-use Rattle.tree_graph.specs.Preorder.{IsTreeOf, preorder, rows}
+use Rattle.policy_core.proofs.Prelude.{List, ◌≡◌, ℕ, ap, sym, subst, [], ◌∙◌, arith, length, ◌<◌, ◌∷◌, refl, get_or, suc, true, Some, map, inl, inr, Contains, Any, cond, cases_Bool, eqb-true, length-map, recursion_from_All, sum_by-cons, AllByRecursion, AllZip, has-at, AreAccepted, root, version_of, AreRising, graph_of, Name, declared, node_name, has, class_name, leaf_classes, place, Declared, Resolved, classes_in, IsResolved, ListsClass, Entry, Sense, node, class, version, each, keep, pop, push, transaction, Tree, most_levels, IsForest, IsWithin, IsTreeOf, rows, preorder, Row, row_at, row, nodes_of, AreHomes, IsHome, IsLeafWith, classes_at, nodes_at, IsNodeTree}
+use Rattle.std.proofs.Common.{nat_eq}
+use Rattle.std.proofs.lemmas.List.{get_or-map}
+use Rattle.policy_text_defs.specs.Sense.{leaf}
+use Rattle.policy_rules.specs.Names.{children}
+use Rattle.tree_graph.specs.Descent.{times}
 use Rattle.tree_graph.proofs.NodesOnce.{each_once}
 use Rattle.tree_graph.proofs.PreorderLaws.{nodes_of-rows}
 use Rattle.tree_graph.proofs.WholeTree.{shallow-root}
 use Rattle.policy_rules.proofs.ListedOnce.{class-leaf, lists-leaf}
 use Rattle.policy_core.proofs.Kinship.{IsNodeAt, node-of, length-graph, name-at, kids-at, some-name}
 use Rattle.policy_core.proofs.FamilyFaults.{is-forest, is-shallow}
-use Rattle.policy_core.specs.Labels.{nodes_at}
-use Rattle.policy_core.specs.Homes.{IsLeafWith, IsHome, AreHomes, classes_at}
-use Rattle.policy_core.specs.PlaceLaws.{IsNodeTree}
 use Rattle.policy_core.proofs.AcceptedStatements.{strays-none}
 use Rattle.policy_core.proofs.LeafClasses.{classes-of}
 use Rattle.policy_core.proofs.HomeLaws.{length-nodes}

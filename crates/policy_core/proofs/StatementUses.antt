@@ -1,11 +1,6 @@
 -- The names that a statement uses, in a list of lines.
-use Rattle.std.proofs.Common.{◌≡◌, ◌<◌, ℕ, true, List, subst, length, get_or}
-use Rattle.policy_text_defs.specs.declared.statement.Statement.{Statement}
-use Rattle.policy_text_defs.specs.Sense.{Entry, sense_of}
-use Rattle.policy_rules.specs.Entries.{entries_of}
-use Rattle.policy_rules.specs.Names.{before}
-use Rattle.policy_rules.specs.Clauses.{NoLine, IsUnknown, is_known}
-use Rattle.policy_rules.proofs.Lines.{entry_of, within-entries, entry-at}
+use Rattle.policy_core.proofs.Prelude.{List, ◌≡◌, ℕ, subst, length, ◌<◌, get_or, true, entry-at, within-entries, NoLine, IsUnknown, is_known, entries_of, before, Entry, sense_of, Statement}
+use Rattle.policy_rules.proofs.Lines.{entry_of}
 use Rattle.policy_core.proofs.AcceptedStatements.{known-at}
 
 -- the names that a line uses are declared

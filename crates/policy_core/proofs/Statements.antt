@@ -1,15 +1,6 @@
 -- No two statements declare the same node or leaf.
-use Rattle.std.proofs.Common.{◌≡◌, ℕ, zero, suc, ◌<◌, ◌||◌, ◌∙◌, true, List, [], ◌∷◌, length, take, get_or, refl, sym, ap, subst, arith, inl, inr, Option, Some, None, Any}
-use Rattle.std.specs.List.{cons_option}
-use Rattle.std.specs.Str.{bytes_eq}
-use Rattle.std.proofs.lemmas.Bool.{cases_order}
-use Rattle.std.proofs.lemmas.List.{length-take, get_or-take, get_or_default}
-use Rattle.std.proofs.lemmas.Slice.Eq.{bytes_eq-Decides}
-use Rattle.std.proofs.Math.Bool.{or-true}
-use Rattle.policy_text_defs.specs.Sense.{Sense, Entry, version, transaction, keep, each, push, pop, class, leaf, node}
-use Rattle.policy_rules.specs.Names.{Name, has, declared, node_name, before}
-use Rattle.policy_rules.specs.Clauses.{NoLine, IsRepeated, is_declared}
-use Rattle.policy_rules.specs.Entries.{AreRising}
+use Rattle.policy_core.proofs.Prelude.{List, ◌≡◌, ℕ, ap, sym, subst, [], ◌∙◌, arith, length, ◌<◌, ◌∷◌, refl, get_or, suc, true, Some, zero, None, Option, inl, inr, take, ◌||◌, Any, or-true, cases_order, get_or_default, get_or-take, length-take, bytes_eq-Decides, cons_option, bytes_eq, NoLine, IsRepeated, is_declared, AreRising, Name, declared, node_name, has, before, Entry, Sense, node, class, version, each, keep, pop, push, transaction}
+use Rattle.policy_text_defs.specs.Sense.{leaf}
 use Rattle.policy_core.proofs.PlacePrograms.{none-some, some-same}
 use Rattle.policy_rules.proofs.EarlierLines.{before-take}
 

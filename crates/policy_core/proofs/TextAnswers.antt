@@ -1,17 +1,10 @@
 -- A text within the length limit has statements or a line in error; its statements are on
 -- increasing lines and valid.
-use Rattle.std.proofs.Common.{◌≡◌, ◌<◌, ℕ, suc, Bool, true, false, List, [], ◌∷◌, refl, arith}
-use Rattle.std.specs.List.{All, list_all}
-use Rattle.std.proofs.lemmas.List.Elements.{All-nil, All-cons}
+use Rattle.policy_core.proofs.Prelude.{List, ◌≡◌, ℕ, [], arith, ◌<◌, ◌∷◌, refl, suc, true, false, Bool, All-cons, All-nil, list_all, AreRising, IsWritten_IsValid, Entry, Sense, entry, IsValid, is_blank, AreValid}
+use Rattle.std.specs.List.{All}
 use Rattle.std.proofs.lemmas.List.Kept.{AllPairs-cons}
 use Rattle.text_core.specs.Lines.{is_clean_text, statements_of}
-use Rattle.text_core.specs.Tokens.{is_blank}
-use Rattle.policy_text_defs.specs.Sense.{Sense, Entry, entry}
 use Rattle.policy_text_defs.specs.Text.{is_shaping, Carries, Entries, over, empty, carried, Fault, not_text, shaping, syntax_fault, IsSound, blank_line, statement_line, FirstFault, here, later}
-use Rattle.policy_text_defs.specs.Valid.{IsValid}
-use Rattle.policy_text_defs.proofs.ValidLaws.{IsWritten_IsValid}
-use Rattle.policy_rules.specs.Entries.{AreRising}
-use Rattle.policy_core.specs.PlaceLaws.{AreValid}
 use Rattle.policy_core.specs.TextLaws.{PolicyTextsHaveAnAnswer, TextsHaveSoundEntries}
 
 -- ---- statements or an error

@@ -1,18 +1,6 @@
 -- Trees of nodes that agree at each number.
-use Rattle.std.proofs.Common.{◌≡◌, ℕ, ◌<◌, ◌∙◌, List, [], length, map, refl, sym, ap, ap₂, subst, arith, true, get_or}
-use Rattle.std.specs.List.{AllByRecursion, list_all}
-use Rattle.tree_defs.specs.Tree.{Tree, leaf, inner, Trees, none, more, root_of}
-use Rattle.policy_text_defs.specs.Sense.{Entry}
-use Rattle.policy_defs.specs.Policy.{Node}
-use Rattle.policy_rules.specs.Names.{Name, has, declared, node_name, before}
-use Rattle.policy_rules.specs.Clauses.{NoLine, IsUnknown, root}
-use Rattle.policy_rules.specs.Programs.{place}
-use Rattle.policy_rules.specs.Accepted.{AreAccepted}
-use Rattle.policy_rules.specs.Graph.{graph_of, nodes_in}
-use Rattle.tree_graph.specs.Preorder.{IsTreeOf, AreTreesOf, labels, preorder, preorder_below}
-use Rattle.policy_core.specs.Labels.{map_tree, map_trees, node_numbered, nodes_at}
-use Rattle.policy_rules.proofs.PlaceLaws.{place-within}
-use Rattle.policy_rules.proofs.Lists.{all-append, all-first, all-second, all-weaker}
+use Rattle.policy_core.proofs.Prelude.{List, ◌≡◌, ℕ, ap, sym, subst, [], ◌∙◌, arith, length, ◌<◌, refl, get_or, true, map, ap₂, AllByRecursion, list_all, Node, all-weaker, all-append, all-first, all-second, place-within, AreAccepted, NoLine, root, IsUnknown, graph_of, nodes_in, Name, declared, node_name, has, before, place, Entry, Tree, Trees, inner, more, none, root_of, IsTreeOf, AreTreesOf, labels, preorder, preorder_below, map_tree, map_trees, node_numbered, nodes_at}
+use Rattle.tree_defs.specs.Tree.{leaf}
 use Rattle.policy_core.proofs.NodeStatements.{families, IsStated, stated}
 use Rattle.policy_core.proofs.ResolvedTrees.{children-at, known-of, family-known, places-within}
 use Rattle.policy_core.proofs.AcceptedStatements.{known-there, root-there}

@@ -1,15 +1,8 @@
 -- Lines with increasing numbers and statements that can be written, as entries.
-use Rattle.std.proofs.Common.{◌≡◌, ◌<◌, ℕ, List, sym, ap, subst, length, get_or, arith}
+use Rattle.policy_core.proofs.Prelude.{List, ◌≡◌, ℕ, ap, sym, subst, arith, length, ◌<◌, get_or, length-entries, entries_of, AreRising, AreWritten, IsRising, IsWritten_IsValid, Entry, sense_of, IsValid, Statement, AreValid}
 use Rattle.std.proofs.lemmas.List.{get_or-map}
-use Rattle.policy_text_defs.specs.declared.statement.Statement.{Statement}
 use Rattle.policy_text_defs.specs.declared.statement.Statement.TheVariants as statement
-use Rattle.policy_text_defs.specs.Sense.{Entry, sense_of}
-use Rattle.policy_text_defs.specs.Valid.{IsValid}
-use Rattle.policy_text_defs.proofs.ValidLaws.{IsWritten_IsValid}
-use Rattle.policy_text.specs.Entries.{IsRising, AreWritten}
-use Rattle.policy_rules.specs.Entries.{entries_of, AreRising}
-use Rattle.policy_rules.proofs.Lines.{entry_of, length-entries}
-use Rattle.policy_core.specs.PlaceLaws.{AreValid}
+use Rattle.policy_rules.proofs.Lines.{entry_of}
 
 no-line : ℕ × Statement
 no-line = (0, statement.Version 1)

@@ -1,8 +1,6 @@
 -- The leading lines that belong to a body.
-use Rattle.std.proofs.Common.{◌≡◌, ℕ, ◌≤◌, Bool, true, false, cond, not, List, [], ◌∷◌, length, take, map, position, Some, None, nat_lt, sym, ap, ◌∙◌, refl, arith}
-use Rattle.std.specs.List.{prefix_len, position_or_len, take_while}
-use Rattle.std.proofs.lemmas.List.{take_all, take-map, length-map}
-use Rattle.std.proofs.lemmas.Bool.{ltb-false}
+use Rattle.policy_rules.proofs.Prelude.{◌∙◌, ap, List, ◌≡◌, sym, ℕ, [], ◌∷◌, refl, take, false, Bool, length, true, not, Some, arith, None, ◌≤◌, cond, map, position, nat_lt, ltb-false, length-map, take-map, take_all, position_or_len, prefix_len}
+use Rattle.std.specs.List.{take_while}
 
 not_not : (b : Bool) → not (not b) ≡ b
 not_not true = refl

@@ -1,11 +1,6 @@
 -- Parsed lines of a body.
-use Rattle.std.proofs.Common.{◌≡◌, ℕ, ◌+◌, ◌<◌, List, ◌∷◌, length, take, drop, get_or, sym, ap, ◌∙◌}
-use Rattle.std.proofs.lemmas.List.{drop_more}
-use Rattle.policy_text_defs.specs.Sense.{Entry, sense_of}
-use Rattle.policy_rules.specs.Names.{Name, declared, keep_name, each_name}
-use Rattle.policy_rules.specs.Entries.{entries_of}
+use Rattle.policy_rules.proofs.Prelude.{◌∙◌, ap, List, ◌≡◌, sym, ℕ, ◌∷◌, take, length, ◌+◌, ◌<◌, get_or, drop, drop_more, Entry, sense_of, IsSoundBody, with_names, entries_of, Name, declared, each_name, keep_name}
 use Rattle.policy_rules.proofs.Lines.{Line, entry_of, within-entries, entry-at}
-use Rattle.policy_rules.specs.CheckedBodies.{with_names, IsSoundBody}
 use Rattle.policy_rules.proofs.SoundBodies.{keeps_more, eaches_more}
 
 -- the lines left from an index

@@ -1,8 +1,5 @@
 -- The state of the passes after one more statement.
-use Rattle.std.proofs.Common.{◌≡◌, List, [], ◌∷◌, ◌++◌, refl, Some}
-use Rattle.policy_text_defs.specs.Sense.{Sense, Entry}
-use Rattle.policy_rules.specs.Clauses.{is_placed}
-use Rattle.policy_rules.specs.Kept.{last_sense, is_placed_behind}
+use Rattle.policy_rules.proofs.Prelude.{List, ◌≡◌, [], ◌∷◌, refl, ◌++◌, Some, Entry, Sense, is_placed, last_sense, is_placed_behind}
 
 -- the last statement is the one that was appended
 pub last_sense-push : (entries : List Entry) (e : Entry) → last_sense (entries ++ e ∷ []) ≡ Some e.1

@@ -1,14 +1,5 @@
 -- The last class, statement by statement.
-use Rattle.std.proofs.Common.{◌≡◌, ◌↔◌, ℕ, ◌+◌, ◌<◌, Bool, true, false, not, true≢false, IsTrue, List, [], ◌∷◌, ◌++◌, refl, sym, ap, ◌∙◌, length, take, get_or}
-use Rattle.policy_text_defs.specs.declared.attribute.Attrs.{Attrs}
-use Rattle.policy_text_defs.specs.declared.condition.Condition.{Condition}
-use Rattle.policy_text_defs.specs.declared.statement.Statement.{Statement}
-use Rattle.policy_text_defs.specs.declared.statement.Statement.TheVariants.{Version, Transaction, Keep, Each, Push, Pop, Class, Leaf, Node}
-use Rattle.policy_rules.specs.Names.{Name}
-use Rattle.policy_text_defs.specs.Sense.{Entry, sense_of, version, transaction, keep, each, push, pop, class, leaf, node}
-use Rattle.policy_rules.specs.Entries.{entries_of}
-use Rattle.policy_rules.specs.Clauses.{has_catch_all, has_catch_all_behind}
-use Rattle.policy_rules.specs.Statements.{is_catch_all}
+use Rattle.policy_rules.proofs.Prelude.{◌∙◌, ap, List, ◌≡◌, sym, ℕ, [], ◌∷◌, refl, ◌++◌, take, false, Bool, length, true, not, ◌+◌, ◌<◌, get_or, true≢false, IsTrue, ◌↔◌, Entry, sense_of, class, pop, push, transaction, version, each, keep, leaf, node, Attrs, Condition, Statement, Each, Keep, Leaf, Node, Pop, Push, Version, Class, Transaction, has_catch_all, has_catch_all_behind, entries_of, Name, is_catch_all}
 use Rattle.policy_rules.proofs.Lines.{Line, entry_of, entries-more}
 
 behind-cons : (found : Bool) (e : Entry) (es : List Entry) → has_catch_all_behind found (e ∷ es) ≡ has_catch_all_behind (is_catch_all found e.1) es

@@ -1,14 +1,6 @@
 -- Increasing line numbers: the statements before one are those on earlier lines, and the first in
 -- error has the lowest line number.
-use Rattle.std.proofs.Common.{◌≡◌, ℕ, ◌+◌, ◌<◌, ◌≤◌, ◌⊎◌, ◌≢◌, Bool, true, false, List, [], ◌∷◌, ◌++◌, refl, sym, ap, subst, ◌∙◌, cond, nat_lt, suc, arith, inl, inr, length, take, drop, get_or, filter}
-use Rattle.std.proofs.lemmas.Bool.{cases_eq, cases_order, lt-ltb, le-ltb, false_from_ne_true}
-use Rattle.std.proofs.lemmas.List.Elements.{filter-append, AllWithin-more, at_read}
-use Rattle.std.proofs.lemmas.List.{append-nil, take-append-drop, length-take, length-drop, get_or_default, get_or-take, get_or-drop}
-use Rattle.std.specs.List.{AllWithin}
-use Rattle.policy_text_defs.specs.Sense.{Sense, Entry}
-use Rattle.policy_rules.specs.Names.{before}
-use Rattle.policy_rules.specs.Clauses.{IsLeastLine}
-use Rattle.policy_rules.specs.Entries.{AreRising}
+use Rattle.policy_rules.proofs.Prelude.{◌∙◌, ap, List, ◌≡◌, sym, ℕ, [], ◌∷◌, refl, ◌++◌, take, false, Bool, length, subst, true, ◌+◌, arith, ◌<◌, inl, inr, get_or, ◌≤◌, cond, drop, suc, ◌≢◌, nat_lt, ◌⊎◌, filter, cases_order, lt-ltb, false_from_ne_true, cases_eq, le-ltb, append-nil, take-append-drop, get_or-take, length-take, get_or-drop, get_or_default, length-drop, filter-append, AllWithin-more, at_read, AllWithin, Entry, Sense, IsLeastLine, AreRising, before}
 
 filter_all : (p : Entry → Bool) (xs : List Entry) → ((k : ℕ) (d : Entry) → k < length xs → p (get_or xs k d) ≡ true) → filter p xs ≡ xs
 filter_all p [] h = refl

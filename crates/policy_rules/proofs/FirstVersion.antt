@@ -1,8 +1,5 @@
 -- Limits in version 1, which has none.
-use Rattle.std.proofs.Common.{◌≡◌, ◌==◌, ◌&&◌, List, ap}
-use Rattle.policy_text_defs.specs.Sense.{sense_of}
-use Rattle.policy_rules.specs.Clauses.{has_limit, version_of}
-use Rattle.policy_rules.specs.Entries.{entries_of}
+use Rattle.policy_rules.proofs.Prelude.{ap, List, ◌≡◌, ◌&&◌, ◌==◌, sense_of, has_limit, version_of, entries_of}
 use Rattle.policy_rules.proofs.Lines.{Line}
 
 -- in version 1, a line needs version 2 exactly if it has a limit

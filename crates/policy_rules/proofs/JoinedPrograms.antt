@@ -1,14 +1,6 @@
 -- Programs of lines, one after another.
-use Rattle.std.proofs.Common.{◌≡◌, ℕ, ◌+◌, ◌<◌, List, [], ◌∷◌, ◌++◌, length, take, get_or, sym, ap, ◌∙◌, refl}
-use Rattle.std.proofs.lemmas.List.Elements.{filter_map-append}
-use Rattle.rank_defs.specs.declared.transaction.Span.{Span}
-use Rattle.rank_defs.specs.Programs.{Assignment, Program}
-use Rattle.policy_text_defs.specs.Sense.{Entry}
-use Rattle.policy_rules.specs.Names.{Name}
-use Rattle.policy_rules.specs.Entries.{entries_of}
-use Rattle.policy_rules.specs.Programs.{keep_span, each_span, push_in, pop_in}
+use Rattle.policy_rules.proofs.Prelude.{◌∙◌, ap, List, ◌≡◌, sym, ℕ, [], ◌∷◌, refl, ◌++◌, take, length, ◌+◌, ◌<◌, get_or, filter_map-append, Entry, Program, Assignment, Span, program_over, joined, entries_of, Name, each_span, keep_span, pop_in, push_in}
 use Rattle.policy_rules.proofs.Lines.{Line, entry_of, take-line}
-use Rattle.policy_rules.specs.CheckedBodies.{program_over, joined}
 
 abbrev of_parts : List Span → List Span → List Assignment → List Assignment → Program
 of_parts ks es push pop = record { keeps = ks; eaches = es; push = push; pop = pop }

@@ -1,27 +1,11 @@
 -- All programs that names denote: they are shaped, and they are rejected if the written ones are.
-use Rattle.std.proofs.Common.{◌≡◌, inl, inr, ℕ, List, [], ◌∷◌, ◌++◌, map, refl, sym, ap, subst, ◌∙◌}
-use Rattle.std.specs.Prelude.{All, Result, Ok, Err, MatchResult, IsErrAnd, IfErr}
-use Rattle.std.specs.List.{AllByRecursion}
-use Rattle.std.proofs.lemmas.List.{append_assoc}
-use Rattle.rank_defs.specs.Programs.{Program, assignments}
-use Rattle.rank_defs.specs.Shapes.{IsShaped}
-use Rattle.rank_defs.specs.Builtins.{Builtin, builtins}
-use Rattle.rank_defs.specs.Checks.{IsChecked, AreChecked, Entry as Checkable, entry, entries, Clashes, IsWide, MayDivideByZero, SomeAt, NoneAt, IsLeastAt, ClashesFirstAt, IsWideFirstAt, DividesByZeroFirstAt}
+use Rattle.policy_rules.proofs.Prelude.{◌∙◌, ap, List, ◌≡◌, sym, ℕ, [], ◌∷◌, refl, ◌++◌, subst, inl, inr, map, append_assoc, AllByRecursion, All, Err, IfErr, IsErrAnd, MatchResult, Ok, Result, Entry, IsValid, checked-faultless, SomeAt-append, SomeAt-right, builtins, Builtin, AreChecked, Clashes, ClashesFirstAt, DividesByZeroFirstAt, IsWide, IsWideFirstAt, MayDivideByZero, IsChecked, IsLeastAt, NoneAt, SomeAt, entries, Program, assignments, IsShaped, AreFew, IsFault, bodies, Body, IsSoundBody, AreRising, known_programs, fault_of, programs, program_in, PolicyFault}
+use Rattle.rank_defs.specs.Checks.{Entry as Checkable, entry}
 use Rattle.rank_defs.specs.Laws.{IsFaultless}
-use Rattle.rank_defs.proofs.Faults.{SomeAt-right, SomeAt-append, checked-faultless}
 use Rattle.rank_defs.proofs.Table.{builtins-checked}
-use Rattle.policy_text_defs.specs.Sense.{Entry}
-use Rattle.policy_text_defs.specs.Valid.{IsValid}
 use Rattle.range_core.specs.declared.fault.RangeFault.{RangeFault}
 use Rattle.range_core.specs.declared.fault.RangeFault.TheVariants as range
-use Rattle.policy_rules.specs.declared.fault.PolicyFault.{PolicyFault}
-use Rattle.policy_rules.specs.Accepted.{AreFew, IsFault}
-use Rattle.policy_rules.specs.Bodies.{Body, bodies}
-use Rattle.policy_rules.specs.Entries.{AreRising}
-use Rattle.policy_rules.specs.Programs.{program_in, programs}
 use Rattle.policy_rules.proofs.Lists.{all-append}
-use Rattle.policy_rules.specs.CheckedBodies.{IsSoundBody}
-use Rattle.policy_rules.specs.Known.{known_programs, fault_of}
 use Rattle.policy_rules.proofs.StatementBodies.{all_sound}
 use Rattle.policy_rules.proofs.ShapedPrograms.{shaped}
 

@@ -1,3 +1,4 @@
+pub mod Prelude
 pub mod OneFault
 pub mod EarlierLines
 pub mod Lines

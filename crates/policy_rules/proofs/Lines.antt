@@ -1,14 +1,6 @@
 -- Parsed statements, and the state of a pass over them at a line.
-use Rattle.std.proofs.Common.{◌≡◌, ℕ, ◌+◌, ◌<◌, List, [], ◌∷◌, ◌++◌, length, take, drop, get_or, Option, Some, sym, ap, subst, ◌∙◌, arith, length-append}
-use Rattle.std.specs.Prelude.{filter_map}
-use Rattle.std.specs.List.{AllWithin, cons_option}
-use Rattle.std.proofs.lemmas.List.{length-map, get_or-map, take_more, take-append-drop, map-append}
-use Rattle.std.proofs.lemmas.List.Elements.{filter_map-append}
-use Rattle.policy_text_defs.specs.declared.statement.Statement.{Statement}
-use Rattle.policy_text_defs.specs.Sense.{Sense, Entry, entry, sense_of}
-use Rattle.policy_rules.specs.Names.{Name, declared}
-use Rattle.policy_rules.specs.Clauses.{IsLeastLine}
-use Rattle.policy_rules.specs.Entries.{entries_of, AreRising}
+use Rattle.policy_rules.proofs.Prelude.{◌∙◌, ap, List, ◌≡◌, sym, ℕ, [], ◌∷◌, ◌++◌, take, length, subst, Some, ◌+◌, arith, ◌<◌, get_or, Option, drop, length-append, take-append-drop, length-map, take_more, map-append, get_or-map, filter_map-append, cons_option, AllWithin, filter_map, Entry, sense_of, Sense, Statement, IsLeastLine, entries_of, AreRising, Name, declared}
+use Rattle.policy_text_defs.specs.Sense.{entry}
 use Rattle.policy_rules.proofs.EarlierLines.{least_here, fine-more}
 
 abbrev pub Line : Type 0

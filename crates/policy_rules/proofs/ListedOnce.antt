@@ -1,17 +1,5 @@
 -- A name that statements list once is listed by one statement.
-use Rattle.std.proofs.Common.{◌≡◌, ◌≢◌, inl, inr, ℕ, ◌+◌, ◌<◌, ◌≤◌, suc, nat_eq, Bool, true, false, not, ◌||◌, ◌&&◌, IsTrue, List, [], ◌∷◌, Option, Some, None, Any, Contains, length, take, drop, get_or, cond, refl, sym, ap, subst, ◌∙◌, arith, true≢false}
-use Rattle.std.specs.List.{sum_by, list_any, cons_option}
-use Rattle.std.specs.Option.{option_map_or}
-use Rattle.std.specs.Str.{bytes_eq}
-use Rattle.std.proofs.lemmas.Bool.{cases_Bool, cases_order}
-use Rattle.std.proofs.lemmas.Bool.Decides.{nat_tests}
-use Rattle.std.proofs.lemmas.List.{length-take, get_or-take}
-use Rattle.std.proofs.lemmas.List.Elements.{Contains-append_right}
-use Rattle.std.proofs.lemmas.List.Sums.{sum_by-append, sum_by-cons, get_or-le-sum_by, sum_by-take-drop, sum_by-drop_more}
-use Rattle.std.proofs.lemmas.Slice.Eq.{bytes_eq-Decides}
-use Rattle.policy_text_defs.specs.Sense.{Sense, Entry, version, transaction, keep, each, push, pop, class, leaf, node}
-use Rattle.policy_rules.specs.Names.{Name, has, times, is_once, declared, listed, class_name, node_name, children, leaf_classes}
-use Rattle.policy_rules.specs.Clauses.{root, NoLine, IsOrphan, IsNotListedOnce}
+use Rattle.policy_rules.proofs.Prelude.{◌∙◌, ap, List, ◌≡◌, sym, ℕ, [], ◌∷◌, refl, take, false, Bool, length, subst, true, not, Some, ◌+◌, arith, ◌<◌, inl, inr, ◌||◌, None, get_or, true≢false, ◌≤◌, Option, cond, drop, ◌&&◌, suc, ◌≢◌, nat_eq, IsTrue, Any, Contains, cases_Bool, cases_order, nat_tests, get_or-take, length-take, Contains-append_right, sum_by-append, get_or-le-sum_by, sum_by-cons, sum_by-drop_more, sum_by-take-drop, bytes_eq-Decides, cons_option, list_any, sum_by, option_map_or, bytes_eq, Entry, Sense, class, pop, push, transaction, version, each, keep, leaf, node, IsNotListedOnce, IsOrphan, NoLine, root, Name, has, declared, is_once, listed, node_name, children, class_name, leaf_classes, times}
 use Rattle.policy_rules.specs.Resolved.{ListsClass}
 
 Any-cons : {X : Type 0} (P : X → Type 0) (x : X) (xs : List X) → Any P xs → Any P (x ∷ xs)

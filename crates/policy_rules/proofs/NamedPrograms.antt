@@ -1,24 +1,8 @@
 -- The index of a name's program among all programs.
-use Rattle.std.proofs.Common.{◌≡◌, ◌≢◌, ℕ, zero, suc, ◌+◌, ◌<◌, ◌≤◌, ◌^◌, nat_lt, nat_eq, Bool, true, false, cond, ◌||◌, List, [], ◌∷◌, ◌++◌, length, map, position, Option, Some, None, is_some, refl, sym, ap, subst, ◌∙◌, arith, rules, true≢false}
-use Rattle.std.specs.Prelude.{find, option_map, option_and_then, slice_get, SomeIff}
-use Rattle.std.specs.List.{list_any, position_or_len, cons_option}
-use Rattle.std.specs.Str.{bytes_eq}
-use Rattle.std.proofs.lemmas.Bool.{eqb-false}
-use Rattle.std.proofs.lemmas.List.{append-nil, length-append}
-use Rattle.std.proofs.lemmas.List.Folds.{find_at}
+use Rattle.policy_rules.proofs.Prelude.{◌∙◌, ap, List, ◌≡◌, sym, ℕ, [], ◌∷◌, refl, ◌++◌, false, Bool, length, subst, true, Some, ◌+◌, arith, ◌<◌, ◌||◌, None, true≢false, ◌≤◌, Option, cond, map, position, suc, ◌≢◌, nat_lt, rules, is_some, nat_eq, option_map, zero, ◌^◌, eqb-false, append-nil, length-append, find_at, cons_option, list_any, position_or_len, SomeIff, find, option_and_then, slice_get, bytes_eq, Entry, Sense, class, pop, push, transaction, version, each, keep, leaf, node, builtins, Builtin, builtin, same_name, Program, AreFew, bodies, Body, is_one_too_many, is_transaction_known, most_transactions, AreRising, known_programs, Name, has, declared, transaction_name, programs, program_in, body_named, or_written, program_named}
 use Rattle.std.proofs.lemmas.List.Quantifiers.{position-Some}
-use Rattle.rank_defs.specs.Programs.{Program}
-use Rattle.rank_defs.specs.Builtins.{Builtin, builtin, builtins, same_name}
-use Rattle.policy_text_defs.specs.Sense.{Sense, Entry, version, transaction, keep, each, push, pop, class, leaf, node}
-use Rattle.policy_rules.specs.Names.{Name, has, declared, transaction_name}
-use Rattle.policy_rules.specs.Bodies.{Body, bodies}
-use Rattle.policy_rules.specs.Clauses.{is_one_too_many, is_transaction_known, most_transactions}
-use Rattle.policy_rules.specs.Accepted.{AreFew}
-use Rattle.policy_rules.specs.Entries.{AreRising}
-use Rattle.policy_rules.specs.Programs.{program_in, programs, body_named, or_written, program_named}
 use Rattle.policy_rules.proofs.SpaceLaws.{declared-few}
 use Rattle.policy_rules.proofs.Texts.{position-map}
-use Rattle.policy_rules.specs.Known.{known_programs}
 use Rattle.policy_rules.proofs.WordVariables.{any_position}
 
 -- ---- built-in names

@@ -1,16 +1,8 @@
 -- Statements have at most one error, and accepted statements none.
-use Rattle.std.proofs.Common.{◌≡◌, ◌≢◌, ◌≤◌, ◌⊎◌, inl, inr, ℕ, Bool, true, false, List, refl, ap, sym, subst, ◌∙◌, arith}
-use Rattle.std.specs.Prelude.{All, Any}
-use Rattle.rank_defs.specs.Checks.{Clashes, IsWide, MayDivideByZero, ClashesFirstAt, IsWideFirstAt, DividesByZeroFirstAt, AreChecked, entries as assignments_of}
-use Rattle.rank_defs.specs.Programs.{Program}
-use Rattle.rank_defs.proofs.Faults.{checked-faultless, least-unique}
-use Rattle.policy_text_defs.specs.Sense.{Entry}
-use Rattle.policy_rules.specs.Accepted.{IsFault}
-use Rattle.policy_rules.specs.Clauses.{IsLeastLine, NoLine, IsMisplaced, IsRepeated, IsUnknown, IsOneTooMany, IsOrphan, has_root, IsNotListedOnce, has_catch_all, NeedsVersion2}
+use Rattle.policy_rules.proofs.Prelude.{◌∙◌, ap, List, ◌≡◌, sym, ℕ, refl, false, Bool, subst, true, arith, inl, inr, ◌≤◌, ◌≢◌, ◌⊎◌, Any, All, Entry, checked-faultless, least-unique, AreChecked, Clashes, ClashesFirstAt, DividesByZeroFirstAt, IsWide, IsWideFirstAt, MayDivideByZero, Program, IsFault, IsLeastLine, IsNotListedOnce, IsOrphan, NoLine, NeedsVersion2, has_catch_all, IsOneTooMany, IsRepeated, has_root, IsMisplaced, IsUnknown, programs, PolicyFault}
+use Rattle.rank_defs.specs.Checks.{entries as assignments_of}
 use Rattle.policy_rules.specs.Families.{IsCyclic, IsTooDeep}
 use Rattle.policy_rules.specs.Laws.{HaveOneFault, AcceptedHaveNoFault}
-use Rattle.policy_rules.specs.Programs.{programs}
-use Rattle.policy_rules.specs.declared.fault.PolicyFault.{PolicyFault}
 use Rattle.policy_rules.specs.declared.fault.PolicyFault.TheVariants.{Misplaced, Twice, Unknown, TooMany, TypeClash, Wide, DivZero, Parents, NoRoot, Cycle, Deep, ClassLeaf, NoCatchAll, OldVersion, NoMemory}
 
 -- ---- clauses in order: what each requires, and how it fails

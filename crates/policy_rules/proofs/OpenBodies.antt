@@ -1,10 +1,5 @@
 -- The open body after one more line.
-use Rattle.std.proofs.Common.{◌≡◌, Bool, true, false, ◌||◌, List, [], ◌∷◌, ◌++◌, refl, ◌∙◌}
-use Rattle.std.specs.List.{list_any}
-use Rattle.std.proofs.Math.Bool.{or-true, or-false}
-use Rattle.std.proofs.lemmas.List.Folds.{list_any-append}
-use Rattle.policy_text_defs.specs.Sense.{Entry}
-use Rattle.policy_rules.specs.Bodies.{is_transaction, open_body}
+use Rattle.policy_rules.proofs.Prelude.{◌∙◌, List, ◌≡◌, [], ◌∷◌, refl, ◌++◌, false, Bool, true, ◌||◌, or-false, or-true, list_any-append, list_any, Entry, is_transaction, open_body}
 
 any_push : (lines : List Entry) (e : Entry) (b : Bool) → is_transaction e ≡ b → list_any is_transaction (lines ++ e ∷ []) ≡ (list_any is_transaction lines || b)
 any_push lines e true is = list_any-append is_transaction lines (e ∷ []) ∙ rw is refl

@@ -1,19 +1,9 @@
 -- The variables of the open transaction after one more statement.
-use Rattle.std.proofs.Common.{◌≡◌, ℕ, true, false, ◌||◌, List, [], ◌∷◌, ◌++◌, sym, ap, ◌∙◌, Some, None}
-use Rattle.std.proofs.Math.Bool.{or-false}
-use Rattle.std.proofs.lemmas.List.{append-nil}
-use Rattle.std.proofs.lemmas.List.Folds.{list_any-append}
-use Rattle.std.specs.List.{cons_option}
-use Rattle.std.specs.Str.{bytes_eq}
-use Rattle.policy_text_defs.specs.declared.statement.Statement.{Statement}
-use Rattle.policy_text_defs.specs.Sense.{Entry, entry, sense_of}
-use Rattle.policy_rules.specs.Names.{Name, has, declared, variable_name}
-use Rattle.policy_rules.specs.Bodies.{is_transaction, open_body}
+use Rattle.policy_rules.proofs.Prelude.{◌∙◌, ap, List, ◌≡◌, sym, ℕ, [], ◌∷◌, ◌++◌, false, true, Some, ◌||◌, None, or-false, append-nil, list_any-append, cons_option, bytes_eq, Entry, sense_of, Statement, is_transaction, open_body, AreVariables, open_variables, with_name, Name, has, declared, variable_name}
+use Rattle.policy_text_defs.specs.Sense.{entry}
 use Rattle.policy_rules.proofs.Lines.{declared-push}
 use Rattle.policy_rules.proofs.OpenBodies.{open_body-line, open_body-opened}
-use Rattle.policy_rules.specs.KnownNames.{with_name}
 use Rattle.policy_rules.proofs.TallyLaws.{has-with_name}
-use Rattle.policy_rules.specs.Kept.{AreVariables, open_variables}
 
 -- a transaction begins with no variables
 pub variables-opened : (earlier : List Entry) (e : Entry) (vs : List Name) → is_transaction e ≡ true → vs ≡ [] → AreVariables (earlier ++ e ∷ []) vs

@@ -1,12 +1,5 @@
 -- Expressions whose words are the variables of the open transaction.
-use Rattle.std.proofs.Common.{◌≡◌, ◌||◌, ◌&&◌, List, refl, ap, ◌∙◌, codes}
-use Rattle.std.specs.Str.{bytes_eq}
-use Rattle.policy_text_defs.specs.Words.{is_variable}
-use Rattle.policy_text_defs.specs.Phrase.{Phrase, number, word, two, negation, choice}
-use Rattle.policy_text_defs.specs.Sense.{Entry, push, pop}
-use Rattle.policy_rules.specs.Names.{Name, has}
-use Rattle.policy_rules.specs.Clauses.{is_known, are_operands_known}
-use Rattle.policy_rules.specs.Kept.{AreVariables, open_variables}
+use Rattle.policy_rules.proofs.Prelude.{◌∙◌, ap, List, ◌≡◌, refl, ◌||◌, ◌&&◌, codes, bytes_eq, Phrase, choice, negation, number, two, word, Entry, pop, push, is_variable, is_known, are_operands_known, AreVariables, open_variables, Name, has}
 
 -- the known words depend only on the set of the variables' names
 pub operands_same : (vs ws : List Name) → ((n : Name) → has vs n ≡ has ws n) → (t : Phrase) → are_operands_known vs t ≡ are_operands_known ws t

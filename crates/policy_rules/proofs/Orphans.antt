@@ -1,13 +1,5 @@
 -- A node or leaf that may be an orphan.
-use Rattle.std.proofs.Common.{◌≡◌, Bool, true, false, not, ◌&&◌, ℕ, List, ap, sym, ◌∙◌, Option, Some, ◌⊎◌, inl, inr}
-use Rattle.std.specs.Option.{option_map_or}
-use Rattle.std.specs.Str.{bytes_eq}
-use Rattle.policy_text_defs.specs.declared.attribute.Attrs.{Attrs}
-use Rattle.policy_text_defs.specs.declared.statement.Statement.{Statement}
-use Rattle.policy_text_defs.specs.declared.statement.Statement.TheVariants.{Leaf, Node}
-use Rattle.policy_text_defs.specs.Sense.{Sense, sense_of}
-use Rattle.policy_rules.specs.Names.{Name, is_once, node_name}
-use Rattle.policy_rules.specs.Clauses.{root, is_orphan}
+use Rattle.policy_rules.proofs.Prelude.{◌∙◌, ap, List, ◌≡◌, sym, ℕ, false, Bool, true, not, Some, inl, inr, Option, ◌&&◌, ◌⊎◌, option_map_or, bytes_eq, sense_of, Sense, Attrs, Statement, Leaf, Node, root, is_orphan, Name, is_once, node_name}
 
 -- a node or leaf that isn't the root and was counted
 pub orphan-counted : (all : List Name) (s : Sense) (a : Name) (differs once : Bool) → node_name s ≡ Some a → differs ≡ not (bytes_eq a root) → once ≡ is_once all a → differs ≡ true

@@ -1,14 +1,7 @@
 -- One turn of a pass over the parsed statements.
-use Rattle.std.proofs.Common.{◌≡◌, ℕ, ◌+◌, ◌<◌, ◌≤◌, Bool, true, false, List, [], ◌∷◌, ◌++◌, sym, ap, subst, ◌∙◌, length, take, get_or, true≢false}
-use Rattle.std.proofs.lemmas.List.Elements.{AllWithin-none, AllWithin-upto, All-from_all_within}
-use Rattle.policy_text_defs.specs.declared.statement.Statement.{Statement}
-use Rattle.policy_text_defs.specs.Sense.{Sense, Entry, sense_of}
-use Rattle.policy_rules.specs.Names.{before}
-use Rattle.policy_rules.specs.Clauses.{IsLeastLine, NoLine}
-use Rattle.policy_rules.specs.Entries.{entries_of, AreRising}
+use Rattle.policy_rules.proofs.Prelude.{◌∙◌, ap, List, ◌≡◌, sym, ℕ, [], ◌∷◌, ◌++◌, take, false, Bool, length, subst, true, ◌+◌, ◌<◌, get_or, true≢false, ◌≤◌, All-from_all_within, AllWithin-none, AllWithin-upto, Entry, sense_of, Sense, Statement, IsLeastLine, NoLine, entries_of, AreRising, before, Passed, Fails}
 use Rattle.policy_rules.proofs.EarlierLines.{before-take}
 use Rattle.policy_rules.proofs.Lines.{entry_of, length-entries, within-entries, entry-at, take-line, least-line, fine-line}
-use Rattle.policy_rules.specs.Passes.{Fails, Passed}
 
 -- the state of a pass before the first statement
 pub Passed-none : (Keeps : List Entry → Type 0) (test : List Entry → Sense → Bool) (entries : List Entry) → Keeps [] → Passed Keeps test entries 0

@@ -1,14 +1,6 @@
 -- The indices of names.
-use Rattle.std.proofs.Common.{◌≡◌, ℕ, ◌+◌, ◌<◌, ◌⊎◌, ◌||◌, ◌∙◌, Bool, true, not, cond, List, [], ◌∷◌, length, map, get_or, sym, refl, ap, arith, inl, inr, true≢false, IsTrue, position, unwrap_or, Some, None, lt-ltb}
-use Rattle.std.proofs.lemmas.Bool.{cases_Bool, cases_order, and_parts}
-use Rattle.std.proofs.lemmas.Slice.Eq.{bytes_eq-Decides}
-use Rattle.std.proofs.lemmas.List.Folds.{list_any_at}
-use Rattle.std.proofs.lemmas.List.Sums.{passes_at_first}
+use Rattle.policy_rules.proofs.Prelude.{◌∙◌, ap, List, ◌≡◌, sym, ℕ, [], ◌∷◌, refl, Bool, length, true, not, Some, ◌+◌, arith, ◌<◌, inl, inr, ◌||◌, None, get_or, true≢false, cond, map, position, ◌⊎◌, IsTrue, unwrap_or, cases_Bool, and_parts, cases_order, lt-ltb, list_any_at, passes_at_first, bytes_eq-Decides, list_any, position_or_len, list_all, IsDistinct, bytes_eq, Name, has, place}
 use Rattle.std.proofs.lemmas.Map.Keys.{apart_from_distinct}
-use Rattle.std.specs.List.{IsDistinct, list_all, list_any, position_or_len}
-use Rattle.std.specs.Str.{bytes_eq}
-use Rattle.policy_rules.specs.Names.{Name, has}
-use Rattle.policy_rules.specs.Programs.{place}
 
 first-within : {X : Type 0} (p : X → Bool) (xs : List X) → list_any p xs ≡ true → position_or_len p xs < length xs
 first-within p [] h = absurd (true≢false (sym h))

@@ -1,16 +1,9 @@
 -- The room that is left after one more statement.
-use Rattle.std.proofs.Common.{◌≡◌, ℕ, ◌+◌, Bool, true, false, List, [], ◌∷◌, ◌++◌, refl, sym, ap, subst, ◌∙◌, cond, arith, Option, Some, None, length, filter}
-use Rattle.std.proofs.lemmas.List.{length-append}
-use Rattle.std.proofs.lemmas.List.Elements.{filter-append}
-use Rattle.std.specs.List.{cons_option}
-use Rattle.policy_text_defs.specs.Sense.{Sense, Entry, entry}
-use Rattle.policy_rules.specs.Names.{Name, declared, transaction_name, class_name, node_name, variable_name}
-use Rattle.policy_rules.specs.Bodies.{is_transaction, is_assignment, open_body}
-use Rattle.policy_rules.specs.Clauses.{assignments_in, most_variables, most_assignments}
+use Rattle.policy_rules.proofs.Prelude.{◌∙◌, ap, List, ◌≡◌, sym, ℕ, [], ◌∷◌, refl, ◌++◌, false, Bool, length, subst, true, Some, ◌+◌, arith, None, Option, cond, filter, length-append, filter-append, cons_option, Entry, Sense, is_transaction, open_body, is_assignment, most_variables, assignments_in, most_assignments, IsRoom, open_variables, Name, declared, node_name, variable_name, class_name, transaction_name}
+use Rattle.policy_text_defs.specs.Sense.{entry}
 use Rattle.policy_rules.proofs.Lines.{declared-push}
 use Rattle.policy_rules.proofs.OpenBodies.{open_body-line, open_body-opened}
 use Rattle.policy_rules.specs.declared.room.Room.{Room}
-use Rattle.policy_rules.specs.Kept.{IsRoom, open_variables}
 use Rattle.policy_rules.proofs.OpenVariables.{open_variables-line}
 
 -- the number of names in an option

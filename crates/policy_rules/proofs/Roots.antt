@@ -1,14 +1,5 @@
 -- The root among the declared names.
-use Rattle.std.proofs.Common.{◌≡◌, Bool, false, ◌||◌, List, [], ◌∷◌, Option, Some, None, refl, sym, ap, ◌∙◌, ℕ}
-use Rattle.std.specs.List.{list_any, cons_option}
-use Rattle.std.specs.Option.{option_map_or}
-use Rattle.std.specs.Str.{bytes_eq}
-use Rattle.policy_text_defs.specs.declared.statement.Statement.{Statement}
-use Rattle.policy_text_defs.specs.Sense.{sense_of}
-use Rattle.policy_rules.specs.Names.{Name, node_name, declared}
-use Rattle.policy_rules.specs.Entries.{entries_of}
-use Rattle.policy_rules.specs.Clauses.{root, has_root}
-use Rattle.policy_rules.specs.Statements.{is_root}
+use Rattle.policy_rules.proofs.Prelude.{◌∙◌, ap, List, ◌≡◌, sym, ℕ, [], ◌∷◌, refl, false, Bool, Some, ◌||◌, None, Option, cons_option, list_any, option_map_or, bytes_eq, sense_of, Statement, root, has_root, entries_of, Name, declared, node_name, is_root}
 
 any-cons_option : (t : Name → Bool) (o : Option Name) (ns : List Name) → list_any t (cons_option o ns) ≡ (option_map_or t o false || list_any t ns)
 any-cons_option t None ns = refl

@@ -1,28 +1,9 @@
 -- Programs of sound bodies are shaped.
-use Rattle.std.proofs.Common.{◌≡◌, ◌≢◌, ◌≤◌, ◌<◌, inl, inr, ℕ, suc, Bool, true, false, ◌&&◌, ◌||◌, if◌then◌else◌, List, [], ◌∷◌, ◌++◌, length, refl, sym, ap, subst, ◌∙◌, true≢false, codes}
-use Rattle.std.specs.Prelude.{filter_map}
-use Rattle.std.specs.List.{AllByRecursion}
-use Rattle.std.specs.Str.{bytes_eq}
-use Rattle.std.proofs.lemmas.Bool.{and_parts, cases_Bool}
-use Rattle.std.proofs.lemmas.List.{append_assoc}
-use Rattle.std.proofs.lemmas.List.Elements.{filter_map-append}
-use Rattle.std.proofs.lemmas.List.Folds.{list_any-append}
-use Rattle.std.proofs.lemmas.Slice.Eq.{bytes_eq-Decides}
+use Rattle.policy_rules.proofs.Prelude.{◌∙◌, ap, List, ◌≡◌, sym, ℕ, [], ◌∷◌, refl, ◌++◌, false, Bool, length, subst, true, ◌<◌, inl, inr, ◌||◌, true≢false, ◌≤◌, ◌&&◌, suc, ◌≢◌, codes, if◌then◌else◌, cases_Bool, and_parts, append_assoc, filter_map-append, list_any-append, bytes_eq-Decides, AllByRecursion, filter_map, bytes_eq, Phrase, choice, negation, number, two, word, depth, Entry, class, pop, push, transaction, version, each, keep, leaf, node, IsValidSpan, is_variable, is_name, Program, Assignment, IsShaped, AreDeclared, IsAim, IsDeclared, IsShapedAssignment, IsSpan, Span, IsSoundBody, AreSoundBehind, are_operands_known, Name, has, declared, each_name, keep_name, variable_name, program_in, place, aim_of, each_span, keep_span, pop_in, push_in, variable_of, formula_in}
 use Rattle.rank_defs.specs.declared.expression.Var.TheVariants as var
 use Rattle.rank_defs.specs.declared.transaction.Aim.TheVariants as aim
-use Rattle.rank_defs.specs.declared.transaction.Span.{Span}
 use Rattle.rank_defs.specs.Formulas.{depth_of}
-use Rattle.rank_defs.specs.Programs.{Assignment, Program}
-use Rattle.rank_defs.specs.Shapes.{IsSpan, IsDeclared, AreDeclared, IsAim, IsShapedAssignment, IsShaped}
-use Rattle.policy_text_defs.specs.Words.{is_name, is_variable}
-use Rattle.policy_text_defs.specs.Phrase.{Phrase, number, word, two, negation, choice, depth}
-use Rattle.policy_text_defs.specs.Sense.{Entry, version, transaction, keep, each, push, pop, class, leaf, node}
-use Rattle.policy_text_defs.specs.Valid.{IsValidSpan}
-use Rattle.policy_rules.specs.Names.{Name, has, declared, keep_name, each_name, variable_name}
-use Rattle.policy_rules.specs.Clauses.{are_operands_known}
-use Rattle.policy_rules.specs.Programs.{place, variable_of, formula_in, aim_of, keep_span, each_span, push_in, pop_in, program_in}
 use Rattle.policy_rules.proofs.PlaceLaws.{place-within}
-use Rattle.policy_rules.specs.CheckedBodies.{AreSoundBehind, IsSoundBody}
 use Rattle.policy_rules.proofs.SoundBodies.{AreBody, AreBody-push, open_own}
 
 -- ---- spans

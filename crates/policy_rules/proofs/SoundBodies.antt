@@ -1,17 +1,6 @@
 -- The lines of one body.
-use Rattle.std.proofs.Common.{◌≡◌, ◌≢◌, ℕ, zero, suc, ◌+◌, ◌≤◌, ◌<◌, nat_eq, Bool, true, false, ◌||◌, List, [], ◌∷◌, ◌++◌, length, take, drop, get_or, Option, Some, None, refl, sym, ap, subst, ◌∙◌, arith, true≢false}
-use Rattle.std.specs.List.{list_any, list_all, cons_option}
-use Rattle.std.specs.Str.{bytes_eq}
-use Rattle.std.proofs.lemmas.Bool.{and_parts, eqb-false}
-use Rattle.std.proofs.lemmas.List.{append-nil, append_assoc, length-append, take_more, take-append-drop}
-use Rattle.std.proofs.lemmas.List.Folds.{list_all-append}
-use Rattle.std.proofs.lemmas.List.Elements.{filter_map-append}
-use Rattle.policy_text_defs.specs.Sense.{Sense, Entry, version, transaction, keep, each, push, pop, class, leaf, node}
-use Rattle.policy_rules.specs.Names.{Name, has, declared, keep_name, each_name, variable_name}
-use Rattle.policy_rules.specs.Bodies.{is_transaction, is_body, open_body}
-use Rattle.policy_rules.specs.Clauses.{is_declared, is_one_too_many, most_variables}
+use Rattle.policy_rules.proofs.Prelude.{◌∙◌, ap, List, ◌≡◌, sym, ℕ, [], ◌∷◌, refl, ◌++◌, take, false, Bool, length, subst, true, Some, ◌+◌, arith, ◌<◌, ◌||◌, None, get_or, true≢false, ◌≤◌, Option, drop, suc, ◌≢◌, nat_eq, zero, and_parts, eqb-false, append-nil, length-append, append_assoc, take-append-drop, take_more, filter_map-append, list_all-append, cons_option, list_any, list_all, bytes_eq, Entry, Sense, class, pop, push, transaction, version, each, keep, leaf, node, is_transaction, open_body, is_body, IsSoundBody, AreSoundBehind, IsSoundLine, with_names, is_declared, is_one_too_many, most_variables, Name, has, declared, each_name, keep_name, variable_name}
 use Rattle.policy_rules.proofs.Lines.{declared-push}
-use Rattle.policy_rules.specs.CheckedBodies.{with_names, IsSoundLine, AreSoundBehind, IsSoundBody}
 
 -- ---- the open body after the lines of a body
 

@@ -1,16 +1,8 @@
 -- The names that statements declare in a space, if no clause rejects them.
-use Rattle.std.proofs.Common.{◌≡◌, ℕ, zero, suc, ◌+◌, ◌<◌, ◌≤◌, false, List, [], ◌++◌, length, take, get_or, Option, Some, None, sym, ap, subst, ◌∙◌, arith}
-use Rattle.std.specs.List.{IsDistinct, cons_option}
-use Rattle.std.specs.Option.{option_map_or}
-use Rattle.std.specs.Str.{bytes_eq}
-use Rattle.std.specs.Cmp.Lexicographic.{nat_list_eq_equiv}
+use Rattle.policy_rules.proofs.Prelude.{◌∙◌, ap, List, ◌≡◌, sym, ℕ, [], ◌++◌, take, false, length, subst, Some, ◌+◌, arith, ◌<◌, None, get_or, ◌≤◌, Option, suc, zero, append-nil, take_more, nat_list_eq_equiv, cons_option, option_map_or, bytes_eq, Entry, Sense, version, is_declared, is_one_too_many, NoLine, IsOneTooMany, IsRepeated, AreRising, Name, has, declared}
+use Rattle.std.specs.List.{IsDistinct}
 use Rattle.std.proofs.Math.Seq.{take-length}
-use Rattle.std.proofs.lemmas.List.{append-nil, take_more}
 use Rattle.std.proofs.lemmas.Map.Keys.{IsDistinct-push}
-use Rattle.policy_text_defs.specs.Sense.{Sense, Entry, version}
-use Rattle.policy_rules.specs.Names.{Name, has, declared}
-use Rattle.policy_rules.specs.Clauses.{NoLine, IsRepeated, IsOneTooMany, is_declared, is_one_too_many}
-use Rattle.policy_rules.specs.Entries.{AreRising}
 use Rattle.policy_rules.proofs.EarlierLines.{passes-at}
 use Rattle.policy_rules.proofs.Lines.{declared-push}
 

@@ -1,20 +1,9 @@
 -- The three spaces after one more statement.
-use Rattle.std.proofs.Common.{◌≡◌, ℕ, Bool, true, false, ◌||◌, List, [], ◌∷◌, ◌++◌, refl, sym, ap, ◌∙◌, ◌⊎◌, inl, inr, Option, Some, None, if◌then◌else◌, true≢false}
-use Rattle.std.proofs.lemmas.List.{append-nil}
-use Rattle.std.specs.List.{cons_option}
-use Rattle.rank_defs.specs.declared.transaction.Span.{Span}
-use Rattle.policy_text_defs.specs.declared.attribute.Attrs.{Attrs}
-use Rattle.policy_text_defs.specs.declared.condition.Condition.{Condition}
-use Rattle.policy_text_defs.specs.declared.statement.Statement.{Statement}
-use Rattle.policy_text_defs.specs.declared.statement.Statement.TheVariants.{Version, Keep, Each, Push, Pop}
+use Rattle.policy_rules.proofs.Prelude.{◌∙◌, ap, List, ◌≡◌, sym, ℕ, [], ◌∷◌, refl, ◌++◌, false, Bool, true, Some, inl, inr, ◌||◌, None, true≢false, Option, ◌⊎◌, if◌then◌else◌, append-nil, cons_option, Entry, sense_of, Sense, class, transaction, Attrs, Condition, Statement, Each, Keep, Pop, Push, Version, Span, is_declared, AreSpaces, with_name, Name, has, declared, node_name, class_name, transaction_name}
 use Rattle.policy_text_defs.specs.declared.term.Term.{Term}
-use Rattle.policy_text_defs.specs.Sense.{Sense, Entry, entry, sense_of, transaction, class}
-use Rattle.policy_rules.specs.Names.{Name, has, declared, transaction_name, class_name, node_name}
-use Rattle.policy_rules.specs.Clauses.{is_declared}
+use Rattle.policy_text_defs.specs.Sense.{entry}
 use Rattle.policy_rules.proofs.Lines.{declared-push}
-use Rattle.policy_rules.specs.KnownNames.{with_name}
 use Rattle.policy_rules.specs.declared.spaces.Spaces.{Spaces}
-use Rattle.policy_rules.specs.Kept.{AreSpaces}
 
 added : (names : List Name) (a : Name) → has names a ≡ false → with_name names a ≡ names ++ a ∷ []
 added names a new = ap (λ b. if b then names else names ++ a ∷ []) new

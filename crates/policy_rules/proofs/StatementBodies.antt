@@ -1,21 +1,9 @@
 -- Statements have sound bodies if no clause up to the limits rejects them.
-use Rattle.std.proofs.Common.{◌≡◌, ℕ, ◌+◌, ◌<◌, Bool, true, false, cond, not, List, [], ◌∷◌, ◌++◌, length, take, drop, get_or, refl, sym, ap, subst, ◌∙◌, arith, true≢false}
-use Rattle.std.specs.Prelude.{All, take_while}
-use Rattle.std.specs.List.{AllByRecursion}
-use Rattle.std.proofs.lemmas.Bool.{false_from_ne_true}
-use Rattle.std.proofs.lemmas.List.{append_assoc, length-append, take-append-drop, get_or_at, take_at, drop_more}
-use Rattle.std.proofs.lemmas.List.Sums.{take_while-cons}
-use Rattle.policy_text_defs.specs.Sense.{Sense, Entry, version, transaction, keep, each, push, pop, class, leaf, node}
-use Rattle.policy_text_defs.specs.Valid.{IsValid}
-use Rattle.policy_rules.specs.Names.{before}
-use Rattle.policy_rules.specs.Bodies.{is_body, open_body, opened, bodies}
-use Rattle.policy_rules.specs.Clauses.{is_declared, is_known, is_one_too_many}
-use Rattle.policy_rules.specs.Accepted.{AreFew}
-use Rattle.policy_rules.specs.Entries.{AreRising}
+use Rattle.policy_rules.proofs.Prelude.{◌∙◌, ap, List, ◌≡◌, sym, ℕ, [], ◌∷◌, refl, ◌++◌, take, false, Bool, length, subst, true, not, ◌+◌, arith, ◌<◌, get_or, true≢false, cond, drop, false_from_ne_true, length-append, append_assoc, take-append-drop, drop_more, get_or_at, take_at, take_while-cons, AllByRecursion, All, Entry, Sense, class, pop, push, transaction, version, each, keep, leaf, node, IsValid, AreFew, open_body, bodies, is_body, opened, IsSoundBody, AreSoundBehind, IsSoundLine, is_declared, is_one_too_many, is_known, AreRising, before}
+use Rattle.std.specs.Prelude.{take_while}
 use Rattle.policy_rules.proofs.EarlierLines.{before-take}
 use Rattle.policy_rules.proofs.Lists.{all-append}
 use Rattle.policy_rules.proofs.OpenBodies.{open_body-line, open_body-opened}
-use Rattle.policy_rules.specs.CheckedBodies.{IsSoundLine, AreSoundBehind, IsSoundBody}
 use Rattle.policy_rules.proofs.SoundBodies.{AreBody, AreBody-push, body_line, open_own}
 
 -- ---- a line of a body is checked alike after lines with the same open body

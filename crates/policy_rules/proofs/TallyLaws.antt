@@ -1,16 +1,5 @@
 -- One more name of a tally.
-use Rattle.std.proofs.Common.{◌≡◌, ℕ, ◌+◌, ◌<◌, ◌≤◌, inl, inr, Bool, true, false, not, ◌||◌, ◌&&◌, List, [], ◌∷◌, ◌++◌, refl, sym, ap, subst, ◌∙◌, cond, nat_lt, nat_eq, count_by, arith, if◌then◌else◌}
-use Rattle.std.proofs.Math.Bool.{or-false, or-true}
-use Rattle.std.proofs.lemmas.Bool.{cases_Bool, ltb-true, ltb-false}
-use Rattle.std.proofs.lemmas.Bool.Decides.{nat_tests}
-use Rattle.std.proofs.lemmas.List.Sums.{sum_by-append}
-use Rattle.std.proofs.lemmas.List.Folds.{list_any-append}
-use Rattle.std.proofs.lemmas.Slice.Eq.{bytes_eq-Decides}
-use Rattle.std.specs.Str.{bytes_eq}
-use Rattle.policy_rules.specs.Names.{has}
-use Rattle.policy_rules.specs.KnownNames.{with_name}
-use Rattle.policy_rules.specs.Names.{is_once}
-use Rattle.policy_rules.specs.KnownNames.{IsTally}
+use Rattle.policy_rules.proofs.Prelude.{◌∙◌, ap, List, ◌≡◌, sym, ℕ, [], ◌∷◌, refl, ◌++◌, false, Bool, subst, true, not, ◌+◌, arith, ◌<◌, inl, inr, ◌||◌, ◌≤◌, cond, ◌&&◌, nat_lt, nat_eq, if◌then◌else◌, count_by, or-false, or-true, cases_Bool, ltb-false, ltb-true, nat_tests, list_any-append, sum_by-append, bytes_eq-Decides, bytes_eq, with_name, IsTally, has, is_once}
 
 abbrev pub times : List ℕ → List (List ℕ) → ℕ
 times a all = count_by (bytes_eq a) all

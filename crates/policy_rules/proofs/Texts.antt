@@ -1,19 +1,7 @@
 -- One more name among those that a map finds.
-use Rattle.std.proofs.Common.{arith, ◌≡◌, ◌∙◌, ℕ, ◌+◌, ◌≤◌, Bool, true, false, ◌||◌, not, Bor, List, [], ◌∷◌, ◌++◌, length, length-append, map, position, Option, None, Some, refl, sym, ap, subst, is_some, cond, nat_lt, eqb}
-use Rattle.std.specs.List.{list_any, position_or_len}
-use Rattle.std.specs.BTreeMap.{BTreeMap, UpdatesBy}
-use Rattle.std.specs.Cmp.Lexicographic.{slice_cmp, nat_list_eq_equiv}
-use Rattle.std.specs.Ordering.{nat_cmp}
-use Rattle.std.specs.Str.{bytes_eq}
+use Rattle.policy_rules.proofs.Prelude.{◌∙◌, ap, List, ◌≡◌, sym, ℕ, [], ◌∷◌, refl, ◌++◌, false, Bool, length, subst, true, not, Some, ◌+◌, arith, ◌||◌, None, ◌≤◌, Option, cond, map, position, nat_lt, is_some, Bor, eqb, nat_tests, length-append, length-map, position_or_len_push, prefix_len-le-length, bytes_eq-Decides, UpdatesBy, BTreeMap, nat_list_eq_equiv, slice_cmp, list_any, position_or_len, nat_cmp, bytes_eq, has, ArePlaces, texts}
 use Rattle.std.proofs.lemmas.Grind.{common_steps}
-use Rattle.std.proofs.lemmas.List.{length-map}
-use Rattle.std.proofs.lemmas.Bool.Decides.{nat_tests}
-use Rattle.std.proofs.lemmas.List.Folds.{position_or_len_push}
-use Rattle.std.proofs.lemmas.List.Sums.{prefix_len-le-length}
 use Rattle.std.proofs.lemmas.Map.Text.{btree_map_updates_str}
-use Rattle.std.proofs.lemmas.Slice.Eq.{bytes_eq-Decides}
-use Rattle.policy_rules.specs.Names.{has}
-use Rattle.policy_rules.specs.Places.{texts, ArePlaces}
 
 -- the index of the first match is unchanged by mapping
 position_or_len-map : {X Y : Type 0} (f : X → Y) (t : Y → Bool) (xs : List X) → position_or_len t (map f xs) ≡ position_or_len (λ x. t (f x)) xs

@@ -1,14 +1,7 @@
 -- The variable of a word.
-use Rattle.std.proofs.Common.{◌≡◌, ◌≢◌, ◌+◌, inl, inr, ℕ, suc, Bool, true, false, cond, not, List, [], ◌∷◌, length, Some, None, is_some, nat_lt, refl, sym, ap, ◌∙◌, arith, position, unwrap_or, codes}
-use Rattle.std.specs.List.{list_any, position_or_len}
-use Rattle.std.specs.Str.{bytes_eq}
-use Rattle.std.proofs.lemmas.Bool.{cases_Bool, lt-ltb}
-use Rattle.std.proofs.lemmas.Bool.Decides.{nat_tests}
-use Rattle.std.proofs.lemmas.Slice.Eq.{bytes_eq-Decides}
+use Rattle.policy_rules.proofs.Prelude.{◌∙◌, ap, List, ◌≡◌, sym, ℕ, [], ◌∷◌, refl, false, Bool, length, true, not, Some, ◌+◌, arith, inl, inr, None, cond, position, suc, ◌≢◌, nat_lt, is_some, codes, unwrap_or, cases_Bool, lt-ltb, nat_tests, bytes_eq-Decides, list_any, position_or_len, bytes_eq, Name, has, place, aim_of, variable_of}
 use Rattle.rank_defs.specs.declared.expression.Var.TheVariants as var
 use Rattle.rank_defs.specs.declared.transaction.Aim.TheVariants as aim
-use Rattle.policy_rules.specs.Names.{Name, has}
-use Rattle.policy_rules.specs.Programs.{place, variable_of, aim_of}
 
 shifted : (b : Bool) (m n : ℕ) → b ≡ nat_lt m n → b ≡ nat_lt (1 + m) (suc n)
 shifted b m n is = grind (arith, nat_tests)

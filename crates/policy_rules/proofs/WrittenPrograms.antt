@@ -1,17 +1,6 @@
 -- The transactions that lines begin, line by line.
-use Rattle.std.proofs.Common.{◌≡◌, ℕ, ◌+◌, ◌-◌, ◌<◌, List, ◌++◌, length, take, drop, get_or, map, sym, ap, subst, ◌∙◌}
-use Rattle.std.specs.Prelude.{All}
-use Rattle.std.specs.List.{AllByRecursion}
-use Rattle.std.proofs.lemmas.List.{append_assoc, take_rest, drop-map, map-append}
-use Rattle.rank_defs.specs.Programs.{Program}
-use Rattle.policy_text_defs.specs.Sense.{Entry, sense_of}
-use Rattle.policy_text_defs.specs.Valid.{IsValid}
-use Rattle.policy_rules.specs.Accepted.{AreFew}
-use Rattle.policy_rules.specs.Bodies.{Body, opened, bodies}
-use Rattle.policy_rules.specs.Entries.{entries_of, AreRising}
-use Rattle.policy_rules.specs.Programs.{program_in, programs}
+use Rattle.policy_rules.proofs.Prelude.{◌∙◌, ap, List, ◌≡◌, sym, ℕ, ◌++◌, take, length, subst, ◌+◌, ◌<◌, get_or, map, drop, ◌-◌, append_assoc, map-append, drop-map, take_rest, AllByRecursion, All, Entry, sense_of, IsValid, Program, AreFew, bodies, Body, opened, IsSoundBody, entries_of, AreRising, programs, program_in}
 use Rattle.policy_rules.proofs.Lines.{Line, entry_of, within-entries, entry-at}
-use Rattle.policy_rules.specs.CheckedBodies.{IsSoundBody}
 use Rattle.policy_rules.proofs.BodyLines.{drop_line}
 use Rattle.policy_rules.proofs.StatementBodies.{sound_begun}
 

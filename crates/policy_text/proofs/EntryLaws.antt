@@ -1,13 +1,9 @@
 -- The line numbers and the statements of entries.
-use Rattle.std.proofs.Common.{◌≡◌, ℕ, suc, ◌+◌, ◌<◌, ◌≤◌, List, [], ◌∷◌, ◌++◌, length, map, sym, refl, ap, ◌∙◌, subst, arith, append_assoc, length-append}
+use Rattle.policy_text.proofs.Prelude.{◌≡◌, ap, length, sym, ◌++◌, ◌∙◌, refl, [], map, ◌+◌, List, arith, subst, ℕ, ◌∷◌, suc, ◌≤◌, ◌<◌, append_assoc, length-append, Sense, numbered, sense_of, Entry, entry, Entries, IsWritten, over, carried, empty, Statement, Numbered, entry_of, AreWritten, IsRising}
 use Rattle.std.proofs.lemmas.List.{append-nil}
 use Rattle.std.specs.List.{All, AllByRecursion}
 use Rattle.std.proofs.lemmas.List.Elements.{All-nil, All-cons, All-tail}
 use Rattle.std.proofs.lemmas.List.Kept.{AllPairs-cons}
-use Rattle.policy_text_defs.specs.declared.statement.Statement.{Statement}
-use Rattle.policy_text_defs.specs.Sense.{Sense, Entry, entry, sense_of, numbered}
-use Rattle.policy_text_defs.specs.Text.{IsWritten, Entries, over, empty, carried}
-use Rattle.policy_text.specs.Entries.{Numbered, entry_of, IsRising, AreWritten}
 
 -- numbers are strictly increasing, and the first is at least N
 abbrev pub Rises : ℕ → List Entry → Type 0

@@ -1,3 +1,4 @@
+pub mod Prelude
 pub mod EntryLaws
 pub mod LoopLaws
 pub mod PrintLaws

@@ -1,12 +1,9 @@
 -- Turns of the loops over attributes, names and conditions.
-use Rattle.std.proofs.Common.{◌≡◌, ℕ, List, [], ◌∷◌, ◌++◌, Some, None, sym, refl, subst}
-use Rattle.text_core.specs.Glyphs.{Glyph}
+use Rattle.policy_text.proofs.Prelude.{◌≡◌, sym, ◌++◌, refl, [], List, subst, ℕ, ◌∷◌, None, Some, Repeats, repeats_start, Outcome, Reader, ahead, Glyph}
 use Rattle.policy_text_defs.specs.declared.attribute.Attribute.{Attribute}
 use Rattle.policy_text_defs.specs.declared.attribute.Attrs.{Attrs}
 use Rattle.policy_text_defs.specs.declared.condition.Condition.{Condition}
-use Rattle.policy_text_defs.specs.Reading.{Outcome, Reader, ahead}
 use Rattle.policy_text_defs.specs.StatementReading.{a_number, set_to, set_next, a_condition, condition_last, name, name_ahead, name_last, names}
-use Rattle.policy_text_defs.proofs.RepeatLoops.{Repeats, repeats_start}
 
 pub set_read : (k : Attribute) (a b : Attrs) (n : ℕ) (gs hs is : List Glyph) → a_number gs ≡ Some (n, hs) → set_to k a n hs ≡ Some (b, is) → set_next k a gs ≡ Some (b, is)
 set_read k a b n gs hs is number set = rw (number, set) refl

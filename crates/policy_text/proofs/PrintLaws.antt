@@ -1,13 +1,8 @@
 -- Printed text reads back.
-use Rattle.std.proofs.Common.{◌≡◌, ℕ, ◌≤◌, List, length, map, sym, subst}
+use Rattle.policy_text.proofs.Prelude.{◌≡◌, length, sym, map, List, subst, ℕ, ◌≤◌, canonical_text, most_text, numbered, HasEntries, IsWritten, ReadsBack, Numbered, AreWritten, sense_at}
 use Rattle.std.specs.Prelude.{◌↔◌}
 use Rattle.std.proofs.lemmas.List.Elements.{All-map}
-use Rattle.policy_text_defs.specs.Ranges.{most_text}
-use Rattle.policy_text_defs.specs.Sense.{numbered}
-use Rattle.policy_text_defs.specs.Text.{IsWritten, HasEntries, ReadsBack}
-use Rattle.policy_text_defs.specs.Canonical.{canonical_text}
 use Rattle.policy_text_defs.proofs.CanonicalLaws.{canonical_text_has}
-use Rattle.policy_text.specs.Entries.{Numbered, AreWritten, sense_at}
 
 pub canonical_reads_back : (held : List Numbered) (text : List ℕ) → AreWritten held → text ≡ canonical_text (map sense_at held) → ReadsBack text (map sense_at held)
 canonical_reads_back held text written same short es =

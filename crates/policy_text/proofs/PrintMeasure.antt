@@ -1,6 +1,5 @@
 -- The number of parts of a term, which decreases as its text is written.
-use Rattle.std.proofs.Common.{ℕ, ◌+◌}
-use Rattle.policy_text_defs.specs.Phrase.{Phrase, number, word, two, negation, choice}
+use Rattle.policy_text.proofs.Prelude.{◌+◌, ℕ, Phrase, choice, negation, number, two, word}
 
 abbrev pub parts : Phrase → ℕ
 parts (number n) = 1

@@ -1,19 +1,11 @@
 -- Consequences of reading all tokens of a line for its statement.
-use Rattle.std.proofs.Common.{◌≡◌, List, [], ◌∷◌, Some, true, false, length, sym, refl, ap, ◌∙◌, arith}
+use Rattle.policy_text.proofs.Prelude.{◌≡◌, ap, length, sym, ◌∙◌, refl, [], List, arith, ◌∷◌, Some, true, false, pure, Sense, IsForm, glyphs_of, Glyph, Refusal, NoForm, NoMemory, Refuses, StatesErr}
 use Rattle.std.proofs.lemmas.Bool.{eqb-true}
 use Rattle.std.specs.Prelude.{◌==◌}
 use Rattle.text_core.specs.declared.item.Item.{Item}
-use Rattle.text_core.specs.declared.refusal.Refusal.{Refusal}
-use Rattle.text_core.specs.declared.refusal.Refusal.TheVariants.{NoForm, NoMemory}
-use Rattle.text_core.specs.Glyphs.{Glyph, glyphs_of}
-use Rattle.policy_text_defs.specs.Sense.{Sense}
-use Rattle.policy_text_defs.specs.Statements.{IsForm}
-use Rattle.policy_text_defs.specs.Reading.{pure}
 use Rattle.policy_text_defs.specs.StatementReading.{a_statement}
 use Rattle.policy_text_defs.proofs.StepLaws.{same_value, same_rest}
 use Rattle.policy_text_defs.proofs.StatementLaws.{IsForm-read, read-IsForm}
-use Rattle.policy_text.specs.Reads.{Refuses}
-use Rattle.policy_text.specs.States.{StatesErr}
 
 pub state_value : (gs rest : List Glyph) (s t : Sense) → a_statement gs ≡ Some (t, rest) → IsForm gs s → t ≡ s
 state_value gs rest s t e f = same_value t s rest [] (sym e ∙ read-IsForm gs s f)

@@ -1,24 +1,16 @@
 -- Steps of reading the lines of a text.
-use Rattle.std.proofs.Common.{◌≡◌, ◌≢◌, ℕ, zero, suc, ◌+◌, ◌<◌, ◌≤◌, List, [], ◌∷◌, ◌++◌, length, take, drop, map, get_or, Result, Ok, Err, Option, Some, None, true, sym, refl, ap, ◌∙◌, subst, arith, inl, inr, IfOk, IfErr}
+use Rattle.policy_text.proofs.Prelude.{◌≡◌, ap, length, sym, ◌++◌, ◌∙◌, refl, [], map, ◌+◌, List, arith, subst, ℕ, ◌∷◌, drop, None, Some, suc, ◌≤◌, true, ◌<◌, Err, IfErr, IfOk, Ok, Option, Result, get_or, inl, inr, take, zero, ◌≢◌, most_text, Sense, sense_of, Entry, entry, IsForm, Entries, HasEntries, over, Carries, Fault, FirstFault, IsFault, IsFirstFault, not_text, shaping, syntax_fault, Statement, Glyph, line_text, statements_of, Numbered, entry_of}
 use Rattle.std.specs.Prelude.{◌⊎◌}
 use Rattle.std.specs.List.{list_all}
 use Rattle.std.proofs.lemmas.List.{length-map, take_all}
 use Rattle.text_core.specs.declared.line.Line.{Line}
-use Rattle.text_core.specs.Lines.{statements_of, line_text}
 use Rattle.text_core.specs.Tokens.{is_blank}
-use Rattle.text_core.specs.Glyphs.{Glyph}
 use Rattle.text_core.specs.Says.{Says}
 use Rattle.text_core.proofs.SaysLaws.{Says-one}
-use Rattle.policy_text_defs.specs.Statements.{IsForm}
-use Rattle.policy_text_defs.specs.declared.statement.Statement.{Statement}
-use Rattle.policy_text_defs.specs.Ranges.{most_text}
-use Rattle.policy_text_defs.specs.Sense.{Sense, Entry, entry, sense_of}
-use Rattle.policy_text_defs.specs.Text.{Carries, Entries, over, HasEntries, Fault, not_text, shaping, syntax_fault, IsFault, FirstFault, IsFirstFault}
 use Rattle.policy_text_defs.proofs.TextLaws.{Entries-one, FirstFault-one, entries_no_fault, entries_blank, entries_more, first_after}
 use Rattle.policy_text.specs.declared.lines.Lines.{Lines}
 use Rattle.policy_text.specs.declared.fault.TextFault.{TextFault}
 use Rattle.policy_text.specs.declared.fault.TextFault.TheVariants as fault
-use Rattle.policy_text.specs.Entries.{Numbered, entry_of}
 use Rattle.policy_text.specs.Parsing.{IsCause, IsWant, HasCause, Gives, Fails, HasForm, LineFault, LineHas, Kept}
 
 -- ---- lists

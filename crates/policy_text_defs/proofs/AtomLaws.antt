@@ -1,17 +1,11 @@
 -- Comparisons and atoms: the reader accepts exactly the grammar.
-use Rattle.std.proofs.Common.{◌≡◌, ℕ, zero, suc, ◌≤◌, max, List, [], ◌∷◌, ◌++◌, Option, Some, None, Bool, true, false, sym, refl, ap, ◌∙◌, subst, codes, arith, append_assoc}
-use Rattle.std.specs.Prelude.{◌||◌}
-use Rattle.rank_defs.specs.declared.expression.Op.{Op}
+use Rattle.policy_text_defs.proofs.Prelude.{List, ℕ, [], refl, ◌≡◌, ◌∷◌, Some, ◌++◌, subst, Bool, true, false, sym, None, arith, codes, ◌≤◌, ◌∙◌, Option, ap, suc, zero, append_assoc, ◌||◌, Op, Glyph, text, figure, sign, Mark, Atom, Expression, Form, IsOperand, alone, call_atom, compared, if_atom, named, not_atom, number_atom, parens_atom, variable, word_atom, AtomOver, Call, Compared, NoForm, and_call, max_call, min_call, or_call, product_op, relation, sum_op, Phrase, two, choice, negation, number, word, depth, most_depth, most_open, ahead, pick, pure, Reader, ◌>>=◌, refuse, atom_at, given, mark, next, comparison, mark_at, word_at, is_name, is_variable, some_if, function_of}
+use Rattle.std.proofs.Common.{max}
 use Rattle.rank_defs.specs.declared.expression.Op.TheVariants as op
-use Rattle.text_core.specs.declared.mark.Mark.{Mark}
 use Rattle.text_core.specs.declared.mark.Mark.TheVariants as m
 use Rattle.policy_text_defs.specs.declared.function.Function.{Function}
 use Rattle.policy_text_defs.specs.declared.function.Function.TheVariants as f
-use Rattle.policy_text_defs.specs.Words.{is_name, is_variable, function_of, some_if}
-use Rattle.policy_text_defs.specs.Phrase.{Phrase, number, word, two, negation, choice, depth, most_depth, most_open}
-use Rattle.text_core.specs.Glyphs.{Glyph, text, figure, sign}
-use Rattle.policy_text_defs.specs.Reading.{Reader, ◌>>=◌, pick, given, next, ahead, pure, refuse, limited, comparison, mark, operand, argument, call, opposite, alternative, mark_at, word_at, atom_at, expression, product, sum, atom}
-use Rattle.policy_text_defs.specs.Grammar.{product_op, sum_op, relation, Form, Compared, alone, compared, Expression, Call, min_call, max_call, and_call, or_call, IsOperand, named, variable, AtomOver, number_atom, word_atom, parens_atom, call_atom, not_atom, if_atom, NoForm, Atom}
+use Rattle.policy_text_defs.specs.Reading.{limited, operand, argument, call, opposite, alternative, expression, product, sum, atom}
 use Rattle.policy_text_defs.proofs.GrammarLaws.{Exact, Begins, low_along, limited_low, passed, Grouped-exact}
 use Rattle.policy_text_defs.proofs.StepLaws.{steps, same_value, same_rest, stands, ahead_at, marked, in_table}
 

@@ -1,18 +1,7 @@
 -- Attributes and lists of names: the readers accept exactly their forms.
-use Rattle.std.proofs.Common.{◌≡◌, ℕ, zero, suc, ◌<◌, ◌≤◌, List, [], ◌∷◌, ◌++◌, length, map, Option, Some, None, Bool, true, false, cond, leb, sym, refl, ap, ◌∙◌, subst, codes, arith, append_assoc}
-use Rattle.std.proofs.lemmas.List.{append-nil}
-use Rattle.std.specs.Prelude.{◌&&◌}
-use Rattle.std.specs.List.{AllByRecursion}
-use Rattle.std.proofs.lemmas.Bool.{le-leb, leb-true}
-use Rattle.text_core.specs.Glyphs.{Glyph, text, figure}
-use Rattle.policy_text_defs.specs.declared.attribute.Attrs.{Attrs}
-use Rattle.policy_text_defs.specs.declared.attribute.Attribute.{Attribute}
+use Rattle.policy_text_defs.proofs.Prelude.{List, ℕ, [], refl, ◌≡◌, ◌∷◌, Some, ◌++◌, subst, Bool, true, false, sym, None, arith, codes, ◌≤◌, ◌∙◌, Option, ap, suc, cond, zero, length, leb, ◌<◌, append_assoc, map, leb-true, le-leb, append-nil, AllByRecursion, ◌&&◌, Glyph, text, figure, attribute_most, attribute_least, ahead, pick, attribute_at, attributes, repeated, is_unset, name_ahead, name_last, set_next, IsName, Attributes, AreNames, AttributesFrom, no_more, set, unset, with_attribute, attribute_value, MaySet, is_name, attribute_word, attribute_of, Attribute, Attrs}
 use Rattle.policy_text_defs.specs.declared.attribute.Attribute.TheVariants as attribute
-use Rattle.policy_text_defs.specs.Words.{is_name, attribute_word, attribute_of}
-use Rattle.policy_text_defs.specs.Ranges.{attribute_least, attribute_most}
-use Rattle.policy_text_defs.specs.Statements.{IsName, unset, attribute_value, with_attribute, MaySet, AttributesFrom, no_more, set, Attributes, AreNames}
-use Rattle.policy_text_defs.specs.Reading.{pick, ahead}
-use Rattle.policy_text_defs.specs.StatementReading.{repeated, many, attribute_at, is_unset, set_to, set_next, attributes, name_ahead, name_last, names}
+use Rattle.policy_text_defs.specs.StatementReading.{many, set_to, names}
 use Rattle.policy_text_defs.proofs.StepLaws.{With, steps, same_value, same_rest, stands, ahead_at, in_table}
 use Rattle.policy_text_defs.proofs.TokenLaws.{numbered, kept, Kept, both_true, named_reads, name_was}
 use Rattle.policy_text_defs.proofs.RepeatLaws.{Leads, Goes, no_step, onward, repeated_ends, repeated_more, many_was, leads_shrink}

@@ -1,17 +1,7 @@
 -- The canonical text of statements that can be written parses and has exactly these statements.
-use Rattle.std.proofs.Common.{◌≡◌, ℕ, zero, suc, ◌-◌, ◌≤◌, ◌&&◌, ◌==◌, List, [], ◌∷◌, ◌++◌, length, map, Bool, true, false, cond, sym, refl, ap, ◌∙◌, subst, arith}
-use Rattle.std.specs.Prelude.{codes, slice_index, ◌↔◌}
-use Rattle.std.specs.List.{prefix_len, list_all, All, AllByRecursion}
+use Rattle.policy_text_defs.proofs.Prelude.{List, ℕ, [], refl, ◌≡◌, ◌∷◌, ◌++◌, subst, Bool, true, false, sym, arith, codes, ◌≤◌, ◌∙◌, ap, suc, cond, zero, length, map, ◌-◌, nat_tests, append-nil, take_all, AllByRecursion, list_all, prefix_len, All, ◌&&◌, ◌==◌, slice_index, ◌↔◌, is_clean, is_clean_text, no_comment, ends_with_return, lines_of, onto_first, statement_length, statement_of, statements_of, Says, statement_text, canonical_text, most_text, Sense, class, each, keep, leaf, node, pop, push, transaction, version, Entry, numbered, Carries, Entries, IsWritten, carried, is_shaping, over, HasEntries, IsValid}
 use Rattle.std.proofs.lemmas.List.Elements.{All-tail}
-use Rattle.std.proofs.lemmas.List.{append-nil, take_all}
-use Rattle.std.proofs.lemmas.Bool.Decides.{nat_tests}
-use Rattle.text_core.specs.Says.{Says}
-use Rattle.text_core.specs.Lines.{is_text, is_clean, is_clean_text, no_comment, ends_with_return, statement_length, statement_of, onto_first, lines_of, statements_of}
-use Rattle.policy_text_defs.specs.Ranges.{most_text}
-use Rattle.policy_text_defs.specs.Sense.{Sense, version, transaction, keep, each, push, pop, class, leaf, node, Entry, numbered}
-use Rattle.policy_text_defs.specs.Text.{is_shaping, Carries, IsWritten, Entries, over, carried, HasEntries}
-use Rattle.policy_text_defs.specs.Canonical.{statement_text, canonical_text}
-use Rattle.policy_text_defs.specs.Valid.{IsValid}
+use Rattle.text_core.specs.Lines.{is_text}
 use Rattle.policy_text_defs.proofs.TokenLaws.{both_true}
 use Rattle.policy_text_defs.proofs.Pieces.{is_plain}
 use Rattle.policy_text_defs.proofs.StatementTokens.{statement_tokens}

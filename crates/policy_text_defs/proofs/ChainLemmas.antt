@@ -1,10 +1,7 @@
 -- One turn of a chain of operators and parts.
-use Rattle.std.proofs.Common.{◌≡◌, ℕ, zero, suc, ◌+◌, ◌<◌, ◌≤◌, ◌-◌, max, List, Option, Some, None, Bool, true, false, cond, sym, refl, ap, ◌∙◌, leb, arith}
-use Rattle.std.proofs.lemmas.Bool.{leb-true}
-use Rattle.rank_defs.specs.declared.expression.Op.{Op}
-use Rattle.policy_text_defs.specs.Phrase.{Phrase, two, depth, most_depth}
-use Rattle.text_core.specs.Glyphs.{Glyph}
-use Rattle.policy_text_defs.specs.Reading.{Outcome, Reader, ◌>>=◌, pick, ahead, limited, chain, next, atom_at, expression, atom, inside}
+use Rattle.policy_text_defs.proofs.Prelude.{List, ℕ, refl, ◌≡◌, Some, Bool, true, false, sym, None, arith, ◌≤◌, ◌∙◌, Option, ap, suc, cond, zero, leb, ◌<◌, ◌+◌, ◌-◌, leb-true, Op, Glyph, Phrase, two, depth, most_depth, ahead, pick, Outcome, Reader, ◌>>=◌, atom_at, expression, next, inside}
+use Rattle.std.proofs.Common.{max}
+use Rattle.policy_text_defs.specs.Reading.{limited, chain, atom}
 
 abbrev pub limited_by : Bool → Phrase → Reader Phrase
 limited_by v t gs = cond v (Some (t, gs)) None

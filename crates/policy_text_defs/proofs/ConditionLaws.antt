@@ -1,21 +1,12 @@
 -- Conditions: the reader accepts exactly their form.
-use Rattle.std.proofs.Common.{◌≡◌, ℕ, ◌≤◌, List, [], ◌∷◌, ◌++◌, Option, Some, None, Bool, true, false, leb, sym, refl, ap, ◌∙◌, subst, codes, arith}
-use Rattle.std.specs.Prelude.{◌&&◌}
-use Rattle.std.proofs.lemmas.Bool.{le-leb, leb-true}
-use Rattle.text_core.specs.declared.mark.Mark.{Mark}
+use Rattle.policy_text_defs.proofs.Prelude.{List, ℕ, [], refl, ◌≡◌, ◌∷◌, Some, ◌++◌, subst, Bool, true, false, sym, None, arith, codes, ◌≤◌, ◌∙◌, Option, ap, leb, leb-true, le-leb, ◌&&◌, Glyph, text, figure, sign, Mark, field_most, most_octet, most_prefix, ahead, pick, pure, Outcome, ◌>>=◌, is_sign, unit_if, a_number, word_ahead, number_to, bounds, condition_by, named_value, octets_at, protocol_by, IsCondition, Address, Range, between, dest, field, ipv4, ipv6, prefix, single, source, AreOctets, address_of, octet_tokens, protocol, whole, Octets, field_word, protocol_of, subject_of, Condition, FieldName}
 use Rattle.text_core.specs.declared.mark.Mark.TheVariants as m
-use Rattle.text_core.specs.Glyphs.{Glyph, text, figure, sign}
-use Rattle.policy_text_defs.specs.declared.condition.FieldName.{FieldName}
 use Rattle.policy_text_defs.specs.declared.condition.FieldName.TheVariants as field_name
-use Rattle.policy_text_defs.specs.declared.condition.Condition.{Condition}
 use Rattle.policy_text_defs.specs.declared.condition.Condition.TheVariants as condition
 use Rattle.policy_text_defs.specs.declared.condition.Subject.{Subject}
 use Rattle.policy_text_defs.specs.declared.condition.Subject.TheVariants as subject
-use Rattle.policy_text_defs.specs.Words.{field_word, subject_of, protocol_of}
-use Rattle.policy_text_defs.specs.Ranges.{field_most, most_octet, most_prefix}
-use Rattle.policy_text_defs.specs.Statements.{Range, single, between, Octets, AreOctets, address_of, octet_tokens, Address, whole, prefix, IsCondition, field, protocol, source, dest, ipv4, ipv6}
-use Rattle.policy_text_defs.specs.Reading.{Outcome, ◌>>=◌, pick, pure, ahead, unit_if, is_sign, is_text}
-use Rattle.policy_text_defs.specs.StatementReading.{a_number, within, number_to, upper, bounded, protocol_by, named_value, bounds, octets_at, address, prefix_length, source_rest, dest_rest, condition_by, a_condition, word_ahead}
+use Rattle.policy_text_defs.specs.Reading.{is_text}
+use Rattle.policy_text_defs.specs.StatementReading.{within, upper, bounded, address, prefix_length, source_rest, dest_rest, a_condition}
 use Rattle.policy_text_defs.proofs.StepLaws.{steps, same_value, same_rest, stands, marked, sign_is, text_is, in_table}
 use Rattle.policy_text_defs.proofs.TokenLaws.{numbered, a_word_was, number_to_was, kept, Kept, both_true}
 

@@ -1,10 +1,5 @@
 -- Consequences of reading all tokens for the grammar.
-use Rattle.std.proofs.Common.{◌≡◌, List, [], ◌++◌, Some, sym, refl, ap, ◌∙◌, subst}
-use Rattle.std.proofs.lemmas.List.{append-nil}
-use Rattle.text_core.specs.Glyphs.{Glyph}
-use Rattle.policy_text_defs.specs.Phrase.{Phrase, most_open}
-use Rattle.policy_text_defs.specs.Grammar.{Spells, Expression, Atom}
-use Rattle.policy_text_defs.specs.Reading.{expression, atom}
+use Rattle.policy_text_defs.proofs.Prelude.{List, [], refl, ◌≡◌, Some, ◌++◌, subst, sym, ◌∙◌, ap, append-nil, Glyph, Atom, Expression, Spells, Phrase, most_open, expression, atom}
 use Rattle.policy_text_defs.proofs.AtomLaws.{all_exact}
 
 pub Spells-read : (gs rest : List Glyph) (a : Phrase) → expression (atom most_open) gs ≡ Some (a, rest) → rest ≡ [] → Spells gs a

@@ -1,11 +1,7 @@
 -- The reader accepts exactly the grammar.
-use Rattle.std.proofs.Common.{◌≡◌, ℕ, zero, suc, ◌+◌, ◌≤◌, max, List, [], ◌∷◌, ◌++◌, Option, Some, None, Bool, true, false, sym, refl, ap, ◌∙◌, subst, leb, arith, append_assoc}
-use Rattle.std.proofs.lemmas.Bool.{le-leb, leb-true}
-use Rattle.rank_defs.specs.declared.expression.Op.{Op}
-use Rattle.policy_text_defs.specs.Phrase.{Phrase, two, depth, most_depth}
-use Rattle.text_core.specs.Glyphs.{Glyph}
-use Rattle.policy_text_defs.specs.Reading.{Reader, and_then, ◌>>=◌, pick, ahead, pure, refuse, limited, chain}
-use Rattle.policy_text_defs.specs.Grammar.{Form, GoesOn, ends, more, Grouped, grouped}
+use Rattle.policy_text_defs.proofs.Prelude.{List, ℕ, [], refl, ◌≡◌, ◌∷◌, Some, ◌++◌, subst, Bool, true, false, sym, None, arith, ◌≤◌, ◌∙◌, Option, ap, suc, zero, leb, append_assoc, ◌+◌, leb-true, le-leb, Op, Glyph, Form, GoesOn, ends, grouped, more, Grouped, Phrase, two, depth, most_depth, ahead, pick, pure, Reader, ◌>>=◌, refuse, and_then}
+use Rattle.std.proofs.Common.{max}
+use Rattle.policy_text_defs.specs.Reading.{limited, chain}
 use Rattle.policy_text_defs.proofs.ChainLemmas.{limited_by, chain_ends}
 use Rattle.policy_text_defs.proofs.StepLaws.{steps, stands, ahead_at}
 

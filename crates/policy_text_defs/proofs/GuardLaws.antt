@@ -1,11 +1,6 @@
 -- Lists of conditions: the reader accepts exactly their form.
-use Rattle.std.proofs.Common.{◌≡◌, ℕ, zero, suc, ◌<◌, ◌≤◌, List, [], ◌∷◌, ◌++◌, length, Some, None, sym, refl, ap, ◌∙◌, subst, codes, arith, append_assoc, length-append}
-use Rattle.std.proofs.lemmas.List.{append-nil}
-use Rattle.text_core.specs.Glyphs.{Glyph, text}
-use Rattle.policy_text_defs.specs.declared.condition.Condition.{Condition}
-use Rattle.policy_text_defs.specs.Statements.{IsCondition, Conditions, last, also, Guard, unguarded, guarded}
-use Rattle.policy_text_defs.specs.Reading.{Outcome, pick, pure, ahead}
-use Rattle.policy_text_defs.specs.StatementReading.{repeated, many, a_condition, word_ahead, condition_last, conditions, guard}
+use Rattle.policy_text_defs.proofs.Prelude.{List, ℕ, [], refl, ◌≡◌, ◌∷◌, Some, ◌++◌, subst, sym, None, arith, codes, ◌≤◌, ◌∙◌, ap, suc, zero, length, ◌<◌, append_assoc, length-append, append-nil, Glyph, text, ahead, pick, pure, Outcome, word_ahead, repeated, a_condition, condition_last, Guard, IsCondition, guarded, unguarded, Conditions, also, last, Condition}
+use Rattle.policy_text_defs.specs.StatementReading.{many, conditions, guard}
 use Rattle.policy_text_defs.proofs.StepLaws.{With, steps, same_value, same_rest}
 use Rattle.policy_text_defs.proofs.ConditionLaws.{apart_end, apart_word, word_follows, condition_was, condition_reads}
 use Rattle.policy_text_defs.proofs.RepeatLaws.{Leads, Goes, no_step, onward, repeated_ends, repeated_more, many_was, leads_shrink}

@@ -1,3 +1,4 @@
+pub mod Prelude
 pub mod AtomLaws
 pub mod AttributeLaws
 pub mod CanonicalLaws

@@ -1,12 +1,7 @@
 -- The limit of a leaf: the reader accepts exactly its form.
-use Rattle.std.proofs.Common.{◌≡◌, ℕ, List, [], ◌∷◌, ◌++◌, Option, Some, None, leb, refl, ap, ◌∙◌, subst, codes}
-use Rattle.std.specs.Prelude.{◌&&◌}
-use Rattle.std.proofs.lemmas.Bool.{le-leb, leb-true}
-use Rattle.text_core.specs.Glyphs.{Glyph, text, figure}
-use Rattle.policy_text_defs.specs.Ranges.{limit_least, limit_most}
-use Rattle.policy_text_defs.specs.Statements.{IsLimit, Limit, unlimited, limited}
-use Rattle.policy_text_defs.specs.Reading.{Outcome, ◌>>=◌, pick, pure, ahead}
-use Rattle.policy_text_defs.specs.StatementReading.{a_number, attribute_at, word_ahead, limit_by, limit}
+use Rattle.policy_text_defs.proofs.Prelude.{List, ℕ, [], refl, ◌≡◌, ◌∷◌, Some, ◌++◌, subst, None, codes, ◌∙◌, Option, ap, leb, leb-true, le-leb, ◌&&◌, Glyph, text, figure, limit_least, limit_most, ahead, pick, pure, Outcome, ◌>>=◌, a_number, attribute_at, word_ahead, IsLimit, Limit, unlimited}
+use Rattle.policy_text_defs.specs.Statements.{limited}
+use Rattle.policy_text_defs.specs.StatementReading.{limit_by, limit}
 use Rattle.policy_text_defs.proofs.StepLaws.{With, steps, same_value, same_rest}
 use Rattle.policy_text_defs.proofs.TokenLaws.{numbered, kept, Kept, both_true}
 use Rattle.policy_text_defs.proofs.ConditionLaws.{word_follows}

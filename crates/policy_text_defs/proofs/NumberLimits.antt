@@ -1,16 +1,9 @@
 -- The numbers in tokens aren't too large.
-use Rattle.std.proofs.Common.{◌≡◌, ℕ, ◌≤◌, ◌&&◌, List, [], ◌∷◌, take, drop, Option, Some, None, option_map, Bool, true, false, cond, refl, subst, arith}
-use Rattle.std.specs.Prelude.{nat_le}
-use Rattle.std.specs.List.{AllByRecursion}
+use Rattle.policy_text_defs.proofs.Prelude.{List, ℕ, [], refl, ◌≡◌, ◌∷◌, Some, subst, Bool, true, false, None, arith, ◌≤◌, Option, cond, drop, option_map, take, leb-true, AllByRecursion, ◌&&◌, nat_le, is_numeral, number_of, Glyph, text, figure, sign, mark_of, Says, SaysFrom, skipped, said, Mark}
 use Rattle.std.specs.Str.Parse.{digits_value}
-use Rattle.std.proofs.lemmas.Bool.{leb-true}
 use Rattle.text_core.specs.declared.token.TokenKind.{TokenKind}
 use Rattle.text_core.specs.declared.token.TokenKind.TheVariants as k
-use Rattle.text_core.specs.declared.mark.Mark.{Mark}
-use Rattle.text_core.specs.Decimals.{max, is_numeral, number_of}
-use Rattle.text_core.specs.Marks.{mark_of}
-use Rattle.text_core.specs.Glyphs.{Glyph, text, figure, sign}
-use Rattle.text_core.specs.Says.{said, skipped, SaysFrom, Says}
+use Rattle.text_core.specs.Decimals.{max}
 
 abbrev pub IsLexed : Glyph → Type 0
 IsLexed (text w) = Unit {0}

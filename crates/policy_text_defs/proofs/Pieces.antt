@@ -1,21 +1,10 @@
 -- Bytes that spell the same tokens before any continuation, piece by piece.
-use Rattle.std.proofs.Common.{◌≡◌, ℕ, ◌≤◌, ◌&&◌, List, [], ◌∷◌, ◌++◌, length, Bool, true, sym, refl, subst, arith, append_assoc}
-use Rattle.std.specs.Prelude.{codes, not, ◌==◌, ◌||◌}
-use Rattle.std.specs.List.{prefix_len, list_all}
-use Rattle.std.specs.Fmt.{decimal}
-use Rattle.std.specs.Str.{all_ascii_digits}
+use Rattle.policy_text_defs.proofs.Prelude.{List, ℕ, [], refl, ◌≡◌, ◌∷◌, ◌++◌, subst, Bool, true, sym, arith, codes, ◌≤◌, length, append_assoc, nat_tests, decimal, list_all, prefix_len, ◌&&◌, ◌||◌, ◌==◌, not, all_ascii_digits, says_mark, says_blank, says_number, says_token, says_word, is_numeral, Glyph, text, figure, sign, is_clean, no_comment, Says, IsBoundary, ends_mark, begins_word, is_word_byte, is_digit, is_word}
 use Rattle.std.proofs.lemmas.List.Folds.{list_all-append}
-use Rattle.std.proofs.lemmas.Bool.Decides.{nat_tests}
 use Rattle.text_core.specs.declared.token.TokenKind.TheVariants as k
 use Rattle.text_core.specs.declared.mark.Mark.TheVariants as m
-use Rattle.text_core.specs.Lines.{is_clean, no_comment}
-use Rattle.text_core.specs.Tokens.{is_word_byte, is_digit, begins_word}
-use Rattle.text_core.specs.Decimals.{max, is_numeral}
-use Rattle.text_core.specs.Glyphs.{Glyph, text, figure, sign}
-use Rattle.text_core.specs.Says.{Says, IsBoundary, ends_mark}
+use Rattle.text_core.specs.Decimals.{max}
 use Rattle.text_core.proofs.DecimalLemmas.{decimal-digits, decimal-numeral}
-use Rattle.text_core.proofs.TextLaws.{says_token, says_blank, says_word, says_number, says_mark}
-use Rattle.policy_text_defs.specs.Words.{is_word}
 use Rattle.policy_text_defs.proofs.TokenLaws.{both_true}
 
 -- a set of continuations

@@ -1,7 +1,5 @@
 -- Reading repeatedly while the tokens begin with something.
-use Rattle.std.proofs.Common.{◌≡◌, ℕ, zero, suc, ◌<◌, List, [], ◌++◌, length, Some, None, sym, refl, ap, ◌∙◌, subst, arith, append_assoc, length-append}
-use Rattle.text_core.specs.Glyphs.{Glyph}
-use Rattle.policy_text_defs.specs.Reading.{Outcome, Reader, ◌>>=◌, pick, pure, refuse}
+use Rattle.policy_text_defs.proofs.Prelude.{List, ℕ, [], refl, ◌≡◌, Some, ◌++◌, subst, sym, None, arith, ◌∙◌, ap, suc, zero, length, ◌<◌, append_assoc, length-append, Glyph, pick, pure, Outcome, Reader, ◌>>=◌, refuse}
 use Rattle.policy_text_defs.specs.StatementReading.{repeated, many}
 use Rattle.policy_text_defs.proofs.StepLaws.{steps, same_value, same_rest}
 

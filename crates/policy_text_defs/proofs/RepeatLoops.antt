@@ -1,7 +1,5 @@
 -- Loops that read repeatedly: how far they got.
-use Rattle.std.proofs.Common.{◌≡◌, ℕ, zero, suc, ◌<◌, ◌≤◌, List, length, Some, None, refl, ◌∙◌, arith}
-use Rattle.text_core.specs.Glyphs.{Glyph}
-use Rattle.policy_text_defs.specs.Reading.{Outcome, Reader}
+use Rattle.policy_text_defs.proofs.Prelude.{List, ℕ, refl, ◌≡◌, Some, None, arith, ◌≤◌, ◌∙◌, suc, zero, length, ◌<◌, Glyph, Outcome, Reader}
 use Rattle.policy_text_defs.specs.StatementReading.{repeated, many}
 use Rattle.policy_text_defs.proofs.RepeatLaws.{repeated_ends, repeated_more}
 

@@ -1,23 +1,9 @@
 -- The tokens of a canonical line have the form of its statement.
-use Rattle.std.proofs.Common.{◌≡◌, ℕ, ◌<◌, ◌≤◌, eqb, cond, Bool, true, false, List, [], ◌∷◌, ◌++◌, Option, Some, None, sym, refl, subst, arith}
-use Rattle.std.specs.Prelude.{codes, ◌||◌, IfSome}
-use Rattle.std.specs.Str.{bytes_eq}
-use Rattle.std.proofs.lemmas.Slice.Eq.{bytes_eq-Decides}
-use Rattle.policy_text_defs.specs.Words.{is_name, is_target}
-use Rattle.std.specs.List.{AllByRecursion}
-use Rattle.std.proofs.lemmas.List.{append-nil}
-use Rattle.std.proofs.lemmas.Bool.{eqb-true}
+use Rattle.policy_text_defs.proofs.Prelude.{List, ℕ, [], refl, ◌≡◌, ◌∷◌, Some, ◌++◌, subst, Bool, true, false, sym, None, arith, codes, ◌≤◌, Option, cond, ◌<◌, eqb, eqb-true, append-nil, bytes_eq-Decides, AllByRecursion, ◌||◌, IfSome, bytes_eq, Glyph, figure, sign, octets_of, Sense, class, each, keep, leaf, node, pop, push, transaction, version, IsLimit, Attributes, Guard, IsCondition, IsForm, Limit, guarded, unguarded, Address, AttributesFrom, Conditions, IsTarget, Range, also, between, class_form, dest, each_form, field, ipv4, ipv6, keep_form, last, leaf_form, no_more, node_form, pop_form, prefix, push_form, rank_target, set, single, source, transaction_form, unlimited, unset, variable_target, version_form, with_attribute, AreOctets, address_of, attribute_value, IsValid, AreValidAttributes, IsValidCondition, IsValidAddress, IsValidAttribute, is_name, is_target, Attribute, Attrs, Condition}
 use Rattle.text_core.specs.declared.mark.Mark.TheVariants as m
-use Rattle.text_core.specs.Glyphs.{Glyph, figure, sign}
-use Rattle.policy_text_defs.specs.declared.attribute.Attrs.{Attrs}
-use Rattle.policy_text_defs.specs.declared.attribute.Attribute.{Attribute}
 use Rattle.policy_text_defs.specs.declared.attribute.Attribute.TheVariants as attribute
-use Rattle.policy_text_defs.specs.declared.condition.Condition.{Condition}
 use Rattle.policy_text_defs.specs.declared.condition.Condition.TheVariants as condition
-use Rattle.policy_text_defs.specs.Sense.{Sense, version, transaction, keep, each, push, pop, class, leaf, node}
-use Rattle.policy_text_defs.specs.Statements.{IsTarget, variable_target, rank_target, unset, attribute_value, with_attribute, AttributesFrom, no_more, set, Attributes, Range, single, between, AreOctets, address_of, Address, prefix, IsCondition, field, source, dest, ipv4, ipv6, Conditions, last, also, Guard, unguarded, guarded, IsLimit, Limit, unlimited, limited, IsForm, version_form, transaction_form, keep_form, each_form, push_form, pop_form, class_form, leaf_form, node_form}
-use Rattle.policy_text_defs.specs.Canonical.{octets_of}
-use Rattle.policy_text_defs.specs.Valid.{IsValidAttribute, AreValidAttributes, IsValidAddress, IsValidCondition, IsValid}
+use Rattle.policy_text_defs.specs.Statements.{limited}
 use Rattle.policy_text_defs.proofs.TermForms.{tokens_of-Spells}
 use Rattle.policy_text_defs.proofs.StatementTokens.{attribute_tokens, attributes_tokens, limit_tokens, range_tokens, address_tokens, condition_tokens, more_conditions_tokens, guard_tokens, statement_tokens}
 

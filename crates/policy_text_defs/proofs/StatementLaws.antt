@@ -1,21 +1,9 @@
 -- Statements: reading all tokens accepts exactly the forms.
-use Rattle.std.proofs.Common.{◌≡◌, ℕ, List, [], ◌∷◌, ◌++◌, map, Option, Some, None, leb, sym, refl, ap, ◌∙◌, subst, codes}
-use Rattle.std.proofs.lemmas.List.{append-nil}
-use Rattle.std.proofs.lemmas.Bool.{le-leb, leb-true}
-use Rattle.std.specs.Prelude.{◌&&◌}
-use Rattle.rank_defs.specs.declared.transaction.Span.{Span}
+use Rattle.policy_text_defs.proofs.Prelude.{List, ℕ, [], refl, ◌≡◌, ◌∷◌, Some, ◌++◌, subst, sym, None, codes, ◌∙◌, Option, ap, leb, map, leb-true, le-leb, append-nil, ◌&&◌, Span, Glyph, text, figure, sign, first_version, last_version, ahead, pure, Reader, ◌>>=◌, literal, ◌>>◌, Sense, class, each, keep, leaf, node, pop, push, transaction, version, a_number, attribute_at, attributes, name, limit, names, rest_by, span, IsName, Attributes, Guard, IsForm, Limit, guarded, span_tokens, unguarded, AreNames, class_form, each_form, keep_form, leaf_form, node_form, pop_form, push_form, transaction_form, version_form, IsSpan, IsVersion, keyword_of, Attrs, Condition}
 use Rattle.text_core.specs.declared.mark.Mark.TheVariants as m
-use Rattle.text_core.specs.Glyphs.{Glyph, text, figure, sign}
-use Rattle.policy_text_defs.specs.declared.attribute.Attrs.{Attrs}
-use Rattle.policy_text_defs.specs.declared.condition.Condition.{Condition}
 use Rattle.policy_text_defs.specs.declared.keyword.Keyword.{Keyword}
 use Rattle.policy_text_defs.specs.declared.keyword.Keyword.TheVariants as keyword
-use Rattle.policy_text_defs.specs.Words.{keyword_of}
-use Rattle.policy_text_defs.specs.Ranges.{first_version, last_version}
-use Rattle.policy_text_defs.specs.Sense.{Sense, version, transaction, keep, each, push, pop, class, leaf, node}
-use Rattle.policy_text_defs.specs.Statements.{IsName, IsSpan, IsVersion, Limit, AreNames, Attributes, span_tokens, Guard, unguarded, guarded, IsForm, version_form, transaction_form, keep_form, each_form, push_form, pop_form, class_form, leaf_form, node_form}
-use Rattle.policy_text_defs.specs.Reading.{Reader, ◌>>=◌, ◌>>◌, pure, literal, ahead}
-use Rattle.policy_text_defs.specs.StatementReading.{name, names, span, attributes, limit, a_number, attribute_at, version_by, transaction_rest, keep_rest, each_rest, push_rest, pop_rest, class_rest, leaf_rest, node_rest, rest_by, a_statement}
+use Rattle.policy_text_defs.specs.StatementReading.{version_by, transaction_rest, keep_rest, each_rest, push_rest, pop_rest, class_rest, leaf_rest, node_rest, a_statement}
 use Rattle.policy_text_defs.proofs.StepLaws.{With, steps, same_value, same_rest, marked, worded, in_table}
 use Rattle.policy_text_defs.proofs.TokenLaws.{numbered, a_word_was, kept, Kept, both_true, named_reads, name_was, target_reads, target_was, span_reads, span_was}
 use Rattle.policy_text_defs.proofs.ExpressionLaws.{Spells-read, read-Spells}

@@ -1,26 +1,10 @@
 -- The canonical line of a statement spells the statement's tokens.
-use Rattle.std.proofs.Common.{◌≡◌, ℕ, ◌≤◌, eqb, cond, Bool, true, false, List, [], ◌∷◌, ◌++◌, map, Option, Some, None, refl, arith}
-use Rattle.std.specs.Prelude.{codes, IfSome}
-use Rattle.std.specs.Fmt.{decimal}
-use Rattle.std.specs.List.{AllByRecursion}
-use Rattle.rank_defs.specs.declared.transaction.Span.{Span}
+use Rattle.policy_text_defs.proofs.Prelude.{List, ℕ, [], refl, ◌≡◌, ◌∷◌, Some, ◌++◌, Bool, true, false, None, arith, codes, ◌≤◌, Option, cond, map, eqb, decimal, AllByRecursion, IfSome, Span, Glyph, text, figure, sign, IsBoundary, octets_of, statement_text, address_text, attribute_text, attributes_text, between_text, condition_text, guard_text, limit_text, more_conditions_text, names_text, range_text, span_text, attribute_most, field_most, Sense, class, each, keep, leaf, node, pop, push, transaction, version, IsLimit, IsName, span_tokens, IsValid, AreValidAttributes, IsValidCondition, IsValidAddress, IsValidAttribute, IsValidSpan, is_word, attribute_word, field_word, Attribute, Attrs, Condition, FieldName}
 use Rattle.text_core.specs.declared.mark.Mark.TheVariants as m
-use Rattle.text_core.specs.Glyphs.{Glyph, text, figure, sign}
-use Rattle.text_core.specs.Says.{IsBoundary}
 use Rattle.text_core.specs.Decimals.{max}
-use Rattle.policy_text_defs.specs.declared.attribute.Attrs.{Attrs}
-use Rattle.policy_text_defs.specs.declared.attribute.Attribute.{Attribute}
 use Rattle.policy_text_defs.specs.declared.attribute.Attribute.TheVariants as attribute
-use Rattle.policy_text_defs.specs.declared.condition.Condition.{Condition}
 use Rattle.policy_text_defs.specs.declared.condition.Condition.TheVariants as condition
-use Rattle.policy_text_defs.specs.declared.condition.FieldName.{FieldName}
 use Rattle.policy_text_defs.specs.declared.condition.FieldName.TheVariants as field
-use Rattle.policy_text_defs.specs.Words.{is_word, attribute_word, field_word}
-use Rattle.policy_text_defs.specs.Ranges.{attribute_most, field_most}
-use Rattle.policy_text_defs.specs.Sense.{Sense, version, transaction, keep, each, push, pop, class, leaf, node}
-use Rattle.policy_text_defs.specs.Statements.{IsName, IsLimit, span_tokens}
-use Rattle.policy_text_defs.specs.Canonical.{between_text, span_text, range_text, octets_of, address_text, condition_text, more_conditions_text, guard_text, attribute_text, attributes_text, limit_text, names_text, statement_text}
-use Rattle.policy_text_defs.specs.Valid.{IsValidAttribute, AreValidAttributes, IsValidSpan, IsValidAddress, IsValidCondition, IsValid}
 use Rattle.policy_text_defs.proofs.WordForms.{name_is_word, target_is_word}
 use Rattle.policy_text_defs.proofs.Pieces.{Anything, IsPiece, boundary-append, join, after, before, text_blank, text_slash, text_dots, text_dot, text_is, text_word, text_number}
 use Rattle.policy_text_defs.proofs.TermPieces.{text_term}

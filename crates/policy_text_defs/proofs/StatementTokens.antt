@@ -1,16 +1,8 @@
 -- The tokens of a statement's canonical line, and the properties of a statement that has one.
-use Rattle.std.specs.Prelude.{ℕ, ◌==◌, if◌then◌else◌, List, [], ◌∷◌, ◌++◌, map, Option, Some, None, codes}
+use Rattle.policy_text_defs.proofs.Prelude.{List, ℕ, [], ◌∷◌, Some, ◌++◌, None, codes, Option, map, ◌==◌, if◌then◌else◌, Glyph, text, figure, sign, octets_of, Sense, class, each, keep, leaf, node, pop, push, transaction, version, span_tokens, octet_tokens, attribute_word, field_word, Attribute, Attrs, Condition}
 use Rattle.text_core.specs.declared.mark.Mark.TheVariants as m
-use Rattle.text_core.specs.Glyphs.{Glyph, text, figure, sign}
-use Rattle.policy_text_defs.specs.declared.attribute.Attrs.{Attrs}
-use Rattle.policy_text_defs.specs.declared.attribute.Attribute.{Attribute}
 use Rattle.policy_text_defs.specs.declared.attribute.Attribute.TheVariants as attribute
-use Rattle.policy_text_defs.specs.declared.condition.Condition.{Condition}
 use Rattle.policy_text_defs.specs.declared.condition.Condition.TheVariants as condition
-use Rattle.policy_text_defs.specs.Words.{attribute_word, field_word}
-use Rattle.policy_text_defs.specs.Sense.{Sense, version, transaction, keep, each, push, pop, class, leaf, node}
-use Rattle.policy_text_defs.specs.Statements.{span_tokens, octet_tokens}
-use Rattle.policy_text_defs.specs.Canonical.{octets_of}
 use Rattle.policy_text_defs.proofs.TermTokens.{tokens_of}
 
 abbrev pub attribute_tokens : Attribute → Option ℕ → List Glyph

@@ -1,12 +1,6 @@
 -- Steps of reading: the tokens that each took.
-use Rattle.std.proofs.Common.{◌≡◌, ℕ, List, [], ◌∷◌, ◌++◌, Option, Some, None, Bool, true, false, cond, sym, refl, ap, ◌∙◌, subst}
-use Rattle.std.specs.Str.{bytes_eq}
-use Rattle.std.proofs.lemmas.Slice.Eq.{bytes_eq-Decides}
-use Rattle.text_core.specs.declared.mark.Mark.{Mark}
-use Rattle.text_core.specs.Marks.{mark_text, mark_of}
-use Rattle.text_core.specs.Glyphs.{Glyph, text, sign}
-use Rattle.text_core.proofs.TextLaws.{mark_of-text}
-use Rattle.policy_text_defs.specs.Reading.{Outcome, Reader, and_then, pick, pure, refuse, ahead, with_rest, is_sign, is_text, expect, mark, literal}
+use Rattle.policy_text_defs.proofs.Prelude.{List, ℕ, [], refl, ◌≡◌, ◌∷◌, Some, ◌++◌, subst, Bool, true, false, sym, None, ◌∙◌, Option, ap, cond, bytes_eq-Decides, bytes_eq, mark_of-text, Glyph, text, sign, mark_of, mark_text, Mark, ahead, pick, pure, Outcome, Reader, refuse, and_then, is_sign, literal, mark, expect, with_rest}
+use Rattle.policy_text_defs.specs.Reading.{is_text}
 
 -- an outcome of two steps is made of two outcomes
 pub record Steps {A B : Type 0} (first : Outcome A) (then : A → Reader B) (b : B) (rest : List Glyph) : Type 0 where

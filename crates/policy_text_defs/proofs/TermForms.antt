@@ -1,16 +1,7 @@
 -- The tokens of the canonical text of a term spell the term.
-use Rattle.std.proofs.Common.{◌≡◌, ℕ, zero, suc, ◌<◌, ◌≤◌, max, List, [], ◌∷◌, ◌++◌, Some, Bool, true, false, cond, refl, subst, arith}
-use Rattle.std.proofs.lemmas.List.{append-nil}
-use Rattle.std.specs.Prelude.{◌||◌}
+use Rattle.policy_text_defs.proofs.Prelude.{List, ℕ, [], refl, ◌≡◌, ◌∷◌, Some, ◌++◌, subst, Bool, true, false, arith, ◌≤◌, suc, cond, zero, ◌<◌, append-nil, ◌||◌, Op, Add, Div, Equal, Less, LessEq, More, MoreEq, Mul, NotEqual, Sub, And, Max, Min, Or, Glyph, text, figure, sign, is_infix, is_infix_op, op_text, Atom, Expression, Form, GoesOn, IsOperand, Spells, alone, call_atom, compared, ends, grouped, if_atom, more, named, not_atom, number_atom, parens_atom, variable, word_atom, Call, and_call, max_call, min_call, or_call, product_op, relation, sum_op, Product, Sum, Phrase, two, choice, negation, number, word, depth, most_depth, most_open, HasOperands, is_name, is_operand, is_variable}
+use Rattle.std.proofs.Common.{max}
 use Rattle.text_core.specs.declared.mark.Mark.TheVariants as m
-use Rattle.rank_defs.specs.declared.expression.Op.{Op}
-use Rattle.rank_defs.specs.declared.expression.Op.TheVariants.{Add, Sub, Mul, Div, Less, LessEq, Equal, NotEqual, MoreEq, More, Min, Max, And, Or}
-use Rattle.policy_text_defs.specs.Words.{is_name, is_variable, is_operand}
-use Rattle.policy_text_defs.specs.Phrase.{Phrase, number, word, two, negation, choice, depth, most_depth, most_open}
-use Rattle.text_core.specs.Glyphs.{Glyph, text, figure, sign}
-use Rattle.policy_text_defs.specs.Grammar.{product_op, sum_op, relation, Form, GoesOn, ends, more, grouped, alone, compared, Product, Sum, Expression, Call, min_call, max_call, and_call, or_call, IsOperand, named, variable, number_atom, word_atom, parens_atom, call_atom, not_atom, if_atom, Atom, Spells}
-use Rattle.policy_text_defs.specs.Canonical.{is_infix, is_infix_op, op_text}
-use Rattle.policy_text_defs.specs.Valid.{HasOperands}
 use Rattle.policy_text_defs.proofs.TermTokens.{wrapped_tokens, infix_tokens, call_tokens, tokens_of}
 
 -- spelled within any large enough limit of parentheses: as a whole, and as an atom if not infix

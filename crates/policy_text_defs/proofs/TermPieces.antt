@@ -1,16 +1,6 @@
 -- The canonical text of a term spells the term's tokens.
-use Rattle.std.proofs.Common.{◌≡◌, ℕ, List, [], ◌∷◌, ◌++◌, Bool, true, false, cond, sym, refl, subst}
-use Rattle.std.specs.Prelude.{codes}
-use Rattle.std.specs.List.{list_all}
-use Rattle.rank_defs.specs.declared.expression.Op.{Op}
-use Rattle.rank_defs.specs.declared.expression.Op.TheVariants.{Add, Sub, Mul, Div, Less, LessEq, Equal, NotEqual, MoreEq, More, Min, Max, And, Or}
-use Rattle.text_core.specs.Glyphs.{Glyph, text, sign}
+use Rattle.policy_text_defs.proofs.Prelude.{List, ℕ, [], refl, ◌≡◌, ◌∷◌, ◌++◌, subst, Bool, true, false, sym, codes, cond, list_all, Op, Add, Div, Equal, Less, LessEq, More, MoreEq, Mul, NotEqual, Sub, And, Max, Min, Or, says_mark, Glyph, text, sign, Says, IsBoundary, is_infix, is_infix_op, op_text, call_text, infix_text, term_text, wrapped, Phrase, two, choice, negation, number, word, HasOperands}
 use Rattle.text_core.specs.declared.mark.Mark.TheVariants as m
-use Rattle.text_core.specs.Says.{Says, IsBoundary}
-use Rattle.text_core.proofs.TextLaws.{says_mark}
-use Rattle.policy_text_defs.specs.Phrase.{Phrase, number, word, two, negation, choice}
-use Rattle.policy_text_defs.specs.Canonical.{wrapped, infix_text, call_text, op_text, term_text, is_infix, is_infix_op}
-use Rattle.policy_text_defs.specs.Valid.{HasOperands}
 use Rattle.policy_text_defs.proofs.TermTokens.{op_mark, wrapped_tokens, infix_tokens, call_tokens, tokens_of}
 use Rattle.policy_text_defs.proofs.WordForms.{operand_is_word}
 use Rattle.policy_text_defs.proofs.Pieces.{is_plain, IsSpaced, IsPiece, join, after, before, ends_early, text_blank, text_open, text_close, text_comma, text_word, text_number}

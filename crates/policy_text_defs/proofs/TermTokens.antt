@@ -1,12 +1,6 @@
 -- The tokens of the canonical text of a term.
-use Rattle.std.specs.Prelude.{if◌then◌else◌, Bool, true, false, List, [], ◌∷◌, ◌++◌, codes}
-use Rattle.text_core.specs.declared.mark.Mark.{Mark}
+use Rattle.policy_text_defs.proofs.Prelude.{List, [], ◌∷◌, ◌++◌, Bool, true, false, codes, if◌then◌else◌, Op, Add, Div, Equal, Less, LessEq, More, MoreEq, Mul, NotEqual, Sub, Glyph, text, figure, sign, Mark, is_infix, is_infix_op, op_text, Phrase, two, choice, negation, number, word}
 use Rattle.text_core.specs.declared.mark.Mark.TheVariants as m
-use Rattle.rank_defs.specs.declared.expression.Op.{Op}
-use Rattle.rank_defs.specs.declared.expression.Op.TheVariants.{Add, Sub, Mul, Div, Less, LessEq, Equal, NotEqual, MoreEq, More}
-use Rattle.policy_text_defs.specs.Phrase.{Phrase, number, word, two, negation, choice}
-use Rattle.text_core.specs.Glyphs.{Glyph, text, figure, sign}
-use Rattle.policy_text_defs.specs.Canonical.{is_infix, is_infix_op, op_text}
 
 abbrev pub op_mark : Op → Mark
 op_mark Add = m.Plus

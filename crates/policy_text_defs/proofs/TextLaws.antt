@@ -1,16 +1,6 @@
 -- The statements of a text are unique, its first error is unique, and no text has both.
-use Rattle.std.proofs.Common.{◌≡◌, ℕ, suc, ◌+◌, List, [], ◌∷◌, ◌++◌, length, drop, Some, Bool, true, false, sym, refl, ap, ◌∙◌, subst, arith}
-use Rattle.std.specs.Prelude.{◌==◌, ◌||◌}
-use Rattle.std.specs.List.{prefix_len, list_all}
-use Rattle.std.proofs.lemmas.Bool.{eqb-true}
-use Rattle.text_core.specs.Lines.{is_clean, is_clean_text}
-use Rattle.text_core.specs.Tokens.{is_blank}
-use Rattle.text_core.specs.Glyphs.{Glyph}
-use Rattle.text_core.specs.Says.{SaysFrom, skipped}
+use Rattle.policy_text_defs.proofs.Prelude.{List, ℕ, [], refl, ◌≡◌, ◌∷◌, Some, ◌++◌, subst, Bool, true, false, sym, arith, ◌∙◌, ap, suc, length, ◌+◌, drop, eqb-true, list_all, prefix_len, ◌||◌, ◌==◌, Glyph, is_clean, is_clean_text, SaysFrom, skipped, is_blank, Sense, Entry, entry, IsForm, Carries, Entries, carried, is_shaping, over, Fault, FirstFault, IsFault, IsSound, blank_line, empty, here, later, not_text, shaping, statement_line, syntax_fault}
 use Rattle.text_core.proofs.SaysLaws.{Says-one}
-use Rattle.policy_text_defs.specs.Sense.{Sense, Entry, entry}
-use Rattle.policy_text_defs.specs.Statements.{IsForm}
-use Rattle.policy_text_defs.specs.Text.{is_shaping, Carries, Entries, over, empty, carried, Fault, not_text, shaping, syntax_fault, IsFault, IsSound, blank_line, statement_line, FirstFault, here, later}
 use Rattle.policy_text_defs.specs.StatementReading.{a_statement}
 use Rattle.policy_text_defs.proofs.TokenLaws.{both_true}
 use Rattle.policy_text_defs.proofs.StatementLaws.{read-IsForm, IsForm-one}

@@ -1,16 +1,7 @@
 -- Single tokens and short runs of them: tokens that are read, and tokens that were read.
-use Rattle.std.proofs.Common.{◌≡◌, ℕ, ◌≤◌, List, [], ◌∷◌, ◌++◌, Some, Bool, true, false, cond, leb, sym, refl, ap, ◌∙◌, subst, codes}
-use Rattle.std.specs.Prelude.{◌&&◌, ◌||◌}
-use Rattle.std.specs.Str.{bytes_eq}
-use Rattle.std.proofs.lemmas.Slice.Eq.{bytes_eq-Decides}
-use Rattle.std.proofs.lemmas.Bool.{le-leb, leb-true}
-use Rattle.rank_defs.specs.declared.transaction.Span.{Span}
+use Rattle.policy_text_defs.proofs.Prelude.{List, ℕ, [], refl, ◌≡◌, ◌∷◌, Some, ◌++◌, subst, Bool, true, false, sym, codes, ◌≤◌, ◌∙◌, ap, cond, leb, leb-true, le-leb, bytes_eq-Decides, ◌&&◌, ◌||◌, bytes_eq, Span, Glyph, text, figure, sign, pure, refuse, given, a_number, name, number_to, a_word, span_at, target, IsName, span_tokens, IsTarget, rank_target, variable_target, IsSpan, is_name, is_target, some_if}
 use Rattle.text_core.specs.declared.mark.Mark.TheVariants as m
-use Rattle.text_core.specs.Glyphs.{Glyph, text, figure, sign}
-use Rattle.policy_text_defs.specs.Words.{is_name, is_target, some_if}
-use Rattle.policy_text_defs.specs.Statements.{IsName, IsTarget, variable_target, rank_target, IsSpan, span_tokens}
-use Rattle.policy_text_defs.specs.Reading.{pure, refuse, given}
-use Rattle.policy_text_defs.specs.StatementReading.{a_word, a_number, within, number_to, named_by, name, target_by, target, spanned, span_at, span}
+use Rattle.policy_text_defs.specs.StatementReading.{within, named_by, target_by, spanned, span}
 use Rattle.policy_text_defs.proofs.StepLaws.{steps, same_value, same_rest, marked}
 
 pub numbered : (gs left : List Glyph) (n : ℕ) → a_number gs ≡ Some (n, left) → gs ≡ figure n ∷ left

@@ -1,24 +1,10 @@
 -- Statements that can be written are valid.
-use Rattle.std.proofs.Common.{◌≡◌, ℕ, zero, suc, ◌≤◌, List, [], ◌∷◌, ◌++◌, Option, Some, None, Bool, true, false, cond, refl, arith}
-use Rattle.std.specs.Prelude.{codes, IfSome}
-use Rattle.std.specs.Str.{bytes_eq}
-use Rattle.std.specs.List.{AllByRecursion}
-use Rattle.rank_defs.specs.declared.expression.Op.{Op}
-use Rattle.text_core.specs.Glyphs.{Glyph}
-use Rattle.policy_text_defs.specs.declared.attribute.Attrs.{Attrs}
-use Rattle.policy_text_defs.specs.declared.attribute.Attribute.{Attribute}
+use Rattle.policy_text_defs.proofs.Prelude.{List, ℕ, [], refl, ◌≡◌, ◌∷◌, Some, ◌++◌, Bool, true, false, None, arith, codes, ◌≤◌, Option, suc, cond, zero, AllByRecursion, IfSome, bytes_eq, Op, Glyph, Atom, Expression, Form, GoesOn, IsOperand, Spells, alone, call_atom, compared, ends, grouped, if_atom, more, named, not_atom, number_atom, parens_atom, variable, word_atom, AtomOver, Compared, Grouped, NoForm, Phrase, two, most_open, Sense, IsLimit, Attributes, Guard, IsCondition, IsForm, Limit, guarded, unguarded, Address, AttributesFrom, Conditions, IsTarget, Range, also, between, class_form, dest, each_form, field, ipv4, ipv6, keep_form, last, leaf_form, no_more, node_form, pop_form, prefix, push_form, rank_target, set, single, source, transaction_form, unlimited, unset, variable_target, version_form, with_attribute, protocol, whole, IsWritten, LineOf, IsValid, AreValidAttributes, HasOperands, IsValidCondition, IsValidAddress, IsValidPhrase, IsAttributeNumber, is_name, is_target, is_operand, Attribute, Attrs, Condition}
 use Rattle.policy_text_defs.specs.declared.attribute.Attribute.TheVariants as attribute
-use Rattle.policy_text_defs.specs.declared.condition.Condition.{Condition}
-use Rattle.policy_text_defs.specs.Words.{is_name, is_operand, is_target}
 use Rattle.std.proofs.Math.Bool.{or-true}
 use Rattle.std.proofs.Math.Logic.{∥∥₁_elim}
 use Rattle.policy_text_defs.proofs.ValidProps.{IsValid-prop}
-use Rattle.policy_text_defs.specs.Phrase.{Phrase, two, most_open}
-use Rattle.policy_text_defs.specs.Grammar.{Form, GoesOn, ends, more, Grouped, grouped, Compared, alone, compared, Expression, IsOperand, named, variable, AtomOver, number_atom, word_atom, parens_atom, call_atom, not_atom, if_atom, NoForm, Atom, Spells}
-use Rattle.policy_text_defs.specs.Sense.{Sense}
-use Rattle.policy_text_defs.specs.Statements.{IsTarget, variable_target, rank_target, unset, with_attribute, AttributesFrom, no_more, set, Attributes, Range, single, between, Address, whole, prefix, IsCondition, field, protocol, source, dest, ipv4, ipv6, Conditions, last, also, Guard, unguarded, guarded, IsLimit, Limit, unlimited, limited, IsForm, version_form, transaction_form, keep_form, each_form, push_form, pop_form, class_form, leaf_form, node_form}
-use Rattle.policy_text_defs.specs.Text.{LineOf, IsWritten}
-use Rattle.policy_text_defs.specs.Valid.{HasOperands, IsValidPhrase, IsAttributeNumber, AreValidAttributes, IsValidAddress, IsValidCondition, IsValid}
+use Rattle.policy_text_defs.specs.Statements.{limited}
 use Rattle.policy_text_defs.proofs.NumberLimits.{IsLexed, Says-lexed}
 
 abbrev AreLexed : List Glyph → Type 0

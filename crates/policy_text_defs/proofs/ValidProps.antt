@@ -1,17 +1,8 @@
 -- Any two proofs that a statement can be printed are equal.
-use Rattle.std.proofs.Common.{ℕ, List, Option, Some, None}
-use Rattle.std.specs.Prelude.{IfSome}
-use Rattle.std.specs.List.{AllByRecursion, AllByRecursion-prop}
+use Rattle.policy_text_defs.proofs.Prelude.{List, ℕ, Some, None, Option, AllByRecursion, AllByRecursion-prop, IfSome, Phrase, two, choice, negation, number, word, Sense, class, each, keep, leaf, node, pop, push, transaction, version, IsLimit, IsName, AreNames, IsValid, AreValidAttributes, HasOperands, IsValidCondition, IsValidAttribute, IsValidPhrase, Attribute, Attrs, Condition}
 use Rattle.std.proofs.Props.{props}
-use Rattle.policy_text_defs.specs.declared.attribute.Attribute.{Attribute}
-use Rattle.policy_text_defs.specs.declared.attribute.Attrs.{Attrs}
 use Rattle.policy_text_defs.specs.declared.attribute.Attribute.TheVariants as attribute
-use Rattle.policy_text_defs.specs.declared.condition.Condition.{Condition}
 use Rattle.policy_text_defs.specs.declared.condition.Condition.TheVariants as condition
-use Rattle.policy_text_defs.specs.Phrase.{Phrase, number, word, two, negation, choice}
-use Rattle.policy_text_defs.specs.Sense.{Sense, version, transaction, keep, each, push, pop, class, leaf, node}
-use Rattle.policy_text_defs.specs.Statements.{IsName, IsLimit, AreNames}
-use Rattle.policy_text_defs.specs.Valid.{HasOperands, IsValidPhrase, IsValidAttribute, AreValidAttributes, IsValidCondition, IsValid}
 
 names-prop : (a : Phrase) → IsProp (HasOperands a)
 names-prop (number n) = hlevel props

@@ -1,11 +1,5 @@
 -- Names, operands and targets are words.
-use Rattle.std.proofs.Common.{◌≡◌, ℕ, List, [], ◌∷◌, length, Bool, true, false, sym, refl, subst, codes}
-use Rattle.std.specs.Prelude.{◌&&◌, ◌||◌, nat_le, not}
-use Rattle.std.specs.List.{list_all, list_any}
-use Rattle.std.specs.Str.{bytes_eq}
-use Rattle.std.proofs.lemmas.Slice.Eq.{bytes_eq-Decides}
-use Rattle.policy_text_defs.specs.Words.{is_reserved, is_word, is_name, variables, is_variable, is_operand, is_target}
-use Rattle.text_core.specs.Tokens.{most_name}
+use Rattle.policy_text_defs.proofs.Prelude.{List, ℕ, [], refl, ◌≡◌, ◌∷◌, subst, Bool, true, false, sym, codes, length, bytes_eq-Decides, list_all, list_any, ◌&&◌, ◌||◌, nat_le, not, bytes_eq, most_name, is_name, is_target, is_operand, is_variable, is_word, is_reserved, variables}
 use Rattle.policy_text_defs.proofs.TokenLaws.{both_true}
 
 abbrev IsWord : List ℕ → Type 0

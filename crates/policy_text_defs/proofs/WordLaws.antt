@@ -1,14 +1,7 @@
 -- Words are text.
-use Rattle.std.proofs.Common.{◌≡◌, ℕ, zero, suc, ◌<◌, ◌≤◌, leb, List, [], ◌∷◌, Bool, true, false, sym, refl, subst, codes, arith}
-use Rattle.std.specs.Prelude.{◌==◌, ◌&&◌, ◌||◌, nat_le, not, length}
-use Rattle.std.specs.List.{list_all, list_any}
-use Rattle.std.specs.Str.{bytes_eq, IsAscii, IsUtf8}
+use Rattle.policy_text_defs.proofs.Prelude.{List, ℕ, [], refl, ◌≡◌, ◌∷◌, subst, Bool, true, false, sym, arith, codes, ◌≤◌, suc, zero, length, leb, ◌<◌, leb-true, eqb-true, bytes_eq-Decides, list_all, list_any, ◌&&◌, ◌||◌, ◌==◌, nat_le, not, bytes_eq, IsAscii, IsUtf8, begins_word, is_word_byte, most_name, is_name, is_target, is_operand, is_variable, is_word, is_reserved, variables}
 use Rattle.std.specs.Int.{is_in_range}
-use Rattle.std.proofs.lemmas.Bool.{leb-true, eqb-true}
 use Rattle.std.proofs.lemmas.Str.{IsUtf8-from_ascii}
-use Rattle.std.proofs.lemmas.Slice.Eq.{bytes_eq-Decides}
-use Rattle.text_core.specs.Tokens.{begins_word, is_word_byte, most_name}
-use Rattle.policy_text_defs.specs.Words.{is_reserved, is_word, is_name, variables, is_variable, is_operand, is_target}
 use Rattle.policy_text_defs.proofs.TokenLaws.{both_true}
 
 below : (low high b : ℕ) → is_in_range low high b ≡ true → b ≤ high

@@ -1,17 +1,10 @@
 -- The least lines at fault in lists, from those in their parts.
-use Rattle.std.proofs.Common.{◌≡◌, ℕ, zero, suc, ◌<◌, List, [], ◌∷◌, ◌++◌, map, take, get_or, length, refl, sym, subst, ap, ◌∙◌, arith}
+use Rattle.range_core.proofs.Prelude.{map, ◌≡◌, subst, take, List, arith, sym, ℕ, [], ap, refl, ◌++◌, ◌∷◌, get_or, length, suc, zero, ◌<◌, ◌∙◌, map-append, append-nil, append_assoc, AllByRecursion, always-tame, entry, entries, Entry, IsWide, MayDivideByZero, AreChecked, Clashes, lesser_line, program_of, assignments, Program, Transaction, AreLeast}
 use Rattle.std.proofs.Math.Seq.{take-suc}
-use Rattle.std.specs.List.{AllByRecursion}
-use Rattle.rank_defs.specs.declared.transaction.Transaction.{Transaction}
-use Rattle.std.proofs.lemmas.List.{map-append, append_assoc, append-nil}
-use Rattle.rank_defs.specs.Programs.{Program, assignments, program_of}
 use Rattle.rank_defs.specs.Tame.{IsAlwaysTame}
-use Rattle.rank_defs.proofs.SafeSteps.{always-tame}
-use Rattle.rank_defs.specs.Checks.{Entry, entry, entries, AreChecked, IsWide, Clashes, MayDivideByZero, lesser_line}
 use Rattle.rank_defs.proofs.Faults.{SomeAt-left, SomeAt-right}
 use Rattle.rank_defs.proofs.LeastFaults.{least-append}
 use Rattle.range_core.specs.declared.lines.Lines.{Lines}
-use Rattle.range_core.specs.LeastLines.{AreLeast}
 
 -- the lesser lines of two, error by error
 abbrev pub lesser_lines : Lines → Lines → Lines

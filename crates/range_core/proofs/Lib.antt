@@ -1,2 +1,3 @@
+mod Prelude
 mod LeastLines
 mod ErrorLemmas

@@ -1,14 +1,5 @@
 -- One iteration of the loop over assignments.
-use Rattle.std.proofs.Common.{◌≡◌, List, ◌∷◌, map, sym, subst, ap, ◌∙◌}
-use Rattle.std.specs.List.{AllByRecursion}
-use Rattle.rank_defs.specs.declared.environment.Env.{Env}
-use Rattle.rank_defs.specs.declared.transaction.Assign.{Assign}
-use Rattle.rank_defs.specs.Programs.{Program, assignment_of}
-use Rattle.rank_defs.specs.States.{Memory}
-use Rattle.rank_defs.specs.Steps.{run, assigned}
-use Rattle.rank_defs.specs.Shapes.{IsShaped, IsMemoryInRange, IsShapedAssignment}
-use Rattle.rank_defs.specs.Checks.{IsCheckedAssignment}
-use Rattle.rank_defs.proofs.SafeSteps.{assigned-in_range}
+use Rattle.rank_core.proofs.Prelude.{◌≡◌, sym, subst, ◌∙◌, List, ap, map, ◌∷◌, AllByRecursion, assigned-in_range, IsCheckedAssignment, assignment_of, Program, IsMemoryInRange, IsShapedAssignment, IsShaped, Memory, run, assigned, Env, Assign}
 
 abbrev pub Turn : Program → Env → List Assign → Memory → Memory → Type 0
 Turn p env rest m end =

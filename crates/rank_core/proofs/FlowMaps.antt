@@ -1,15 +1,7 @@
 -- A map ordered by the flows' keys behaves like a map from flows: lookups and updates work flow by
 -- flow.
-use Rattle.std.proofs.Common.{rules, arith, ◌≡◌, ◌≢◌, ◌∙◌, List, [], ◌∷◌, refl, sym, subst, false, Option}
+use Rattle.rank_core.proofs.Prelude.{◌≡◌, sym, rules, subst, ◌∙◌, List, arith, [], refl, ◌∷◌, false, ◌≢◌, Option, BTreeMap, Updates, get, is_at, lookup, same_who-other, FlowKey, Flow, has_key, key_of, cmp-value, OrderedKey}
 use Rattle.std.specs.Ordering.{is_eq}
-use Rattle.std.specs.Map.{lookup}
-use Rattle.std.specs.BTreeMap.{BTreeMap, get, is_at, Updates}
-use Rattle.rank_defs.specs.declared.environment.FlowKey.{FlowKey}
-use Rattle.rank_defs.specs.declared.environment.Who.TheVariants.{Flow}
-use Rattle.rank_defs.proofs.OtherStates.{same_who-other}
-use Rattle.rank_core.specs.declared.flows.OrderedKey.{OrderedKey}
-use Rattle.rank_core.specs.contracts.flows.OrderedKeyOrd.TheImpl.{cmp-value}
-use Rattle.rank_core.specs.FlowKeys.{key_of, has_key}
 
 -- in the order, a flow's key equals no other flow's key
 pub tied : (f : FlowKey) (k : OrderedKey) → is_eq (cmp-value.it (key_of f) k) ≡ has_key f k

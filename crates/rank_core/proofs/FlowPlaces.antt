@@ -1,18 +1,7 @@
 -- Flows with room, each at its index: lookups after adding a flow, and after changing the values at
 -- an index.
-use Rattle.std.proofs.Common.{arith, ◌≡◌, ◌≢◌, ◌∙◌, ◌<◌, ◌++◌, ℕ, zero, suc, List, [], ◌∷◌, length, refl, sym, ap, Vec, Option, Some, None, IsSome}
-use Rattle.std.specs.Prelude.{slice_get, option_map}
-use Rattle.std.specs.declared.alloc.Global.{Global}
-use Rattle.std.specs.Map.{lookup}
-use Rattle.std.specs.BTreeMap.{BTreeMap, Updates}
+use Rattle.rank_core.proofs.Prelude.{◌≡◌, sym, ◌∙◌, List, ap, arith, [], length, ℕ, refl, ◌∷◌, Some, IsSome, ◌<◌, ◌≢◌, Option, Vec, None, suc, zero, ◌++◌, BTreeMap, Updates, lookup, slice_get, option_map, Global, by_same_who, FlowKey, Flow, has_key, key_of, numbers_at, items_of, cmp-value, OrderedKey}
 use Rattle.std.proofs.lemmas.Option.{slice_get_within}
-use Rattle.rank_defs.specs.declared.environment.FlowKey.{FlowKey}
-use Rattle.rank_defs.specs.declared.environment.Who.TheVariants.{Flow}
-use Rattle.rank_defs.proofs.OtherStates.{by_same_who}
-use Rattle.rank_core.specs.declared.flows.OrderedKey.{OrderedKey}
-use Rattle.rank_core.specs.contracts.flows.OrderedKeyOrd.TheImpl.{cmp-value}
-use Rattle.rank_core.specs.FlowKeys.{key_of, has_key}
-use Rattle.rank_core.specs.Flows.{items_of, numbers_at}
 use Rattle.rank_core.proofs.FlowMaps.{flow-of, update_there, update_others}
 
 some-of : {X : Type 0} {x y : X} → Some x ≡ Some y → x ≡ y

@@ -1,3 +1,4 @@
+pub mod Prelude
 pub mod AssignmentLoop
 pub mod FlowMaps
 pub mod FlowPlaces

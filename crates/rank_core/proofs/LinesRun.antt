@@ -1,14 +1,5 @@
 -- The state of a node after the assignments of a step.
-use Rattle.std.proofs.Common.{◌≡◌, ◌≢◌, ◌∙◌, ℕ, List, [], true, false, cond, refl, ap, subst, Option, Some, None, IsSome}
-use Rattle.rank_defs.specs.declared.environment.Env.{Env}
-use Rattle.rank_defs.specs.declared.environment.Who.{Who}
-use Rattle.rank_defs.specs.declared.transaction.Assign.{Assign}
-use Rattle.rank_defs.specs.declared.transaction.Transaction.{Transaction}
-use Rattle.rank_defs.specs.States.{SameState, Memory, put_back, same_who}
-use Rattle.rank_defs.proofs.OtherStates.{same_who-is, same_who-refl}
-use Rattle.rank_core.specs.declared.node.NodeState.{NodeState}
-use Rattle.rank_core.specs.Scope.{memory, run_of}
-use Rattle.rank_core.specs.Node.{kept, kept_or, state_of, step_of, HasState}
+use Rattle.rank_core.proofs.Prelude.{◌≡◌, subst, ◌∙◌, List, ap, [], ℕ, refl, Some, IsSome, false, ◌≢◌, Option, true, None, cond, same_who-is, same_who-refl, Memory, SameState, put_back, same_who, Env, Who, Assign, Transaction, state_of, step_of, HasState, kept_or, kept, memory, run_of, NodeState}
 
 -- if values are kept, the first ones don't matter
 some-kept : (a b : List ℕ) (o : Option (List ℕ)) → IsSome o → kept_or a o ≡ kept_or b o

@@ -1,7 +1,5 @@
 -- Lists with one item replaced, and lists of one repeated item.
-use Rattle.std.proofs.Common.{arith, ◌≡◌, ◌≢◌, ◌∙◌, sym, drop, ◌<◌, ℕ, zero, suc, List, [], ◌∷◌, length, refl, ap, Some}
-use Rattle.std.specs.Prelude.{slice_get, slice_set, Vec}
-use Rattle.std.specs.Vec.{with_items}
+use Rattle.rank_core.proofs.Prelude.{◌≡◌, sym, ◌∙◌, List, ap, arith, [], length, ℕ, refl, ◌∷◌, Some, drop, ◌<◌, ◌≢◌, Vec, suc, zero, slice_get, slice_set, with_items}
 use Rattle.std.proofs.Math.Seq.{take-append_seam}
 
 pub get_set_same : {X : Type 0} (xs : List X) (i : ℕ) (x : X) → i < length xs → slice_get (slice_set xs i x) i ≡ Some x

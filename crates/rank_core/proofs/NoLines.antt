@@ -1,13 +1,5 @@
 -- Steps that change no variable.
-use Rattle.std.proofs.Common.{◌≡◌, ℕ, List, true, false, cond, refl, ap, sym, subst}
-use Rattle.rank_defs.specs.declared.environment.Env.{Env}
-use Rattle.rank_defs.specs.declared.environment.Who.{Who}
-use Rattle.rank_defs.specs.declared.transaction.Assign.{Assign}
-use Rattle.rank_defs.specs.declared.transaction.Transaction.{Transaction}
-use Rattle.rank_defs.specs.States.{State, SameState, Memory, memory_for, put_back, same_who}
-use Rattle.rank_defs.proofs.OtherStates.{same_who-is}
-use Rattle.rank_core.specs.declared.node.NodeState.{NodeState}
-use Rattle.rank_core.specs.Node.{state_of, step_of, HasState}
+use Rattle.rank_core.proofs.Prelude.{◌≡◌, sym, subst, List, ap, ℕ, refl, false, true, cond, same_who-is, Memory, SameState, memory_for, put_back, same_who, State, Env, Who, Assign, Transaction, state_of, step_of, HasState, NodeState}
 
 -- putting back unchanged values gives the same state
 pub put_back-unchanged : (who : Who) (r : ℕ) (s : State) → SameState s (put_back who (memory_for who r s) s)

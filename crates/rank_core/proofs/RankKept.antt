@@ -1,15 +1,5 @@
 -- A step that writes one variable of the node, and nothing else.
-use Rattle.std.proofs.Common.{◌≡◌, ℕ, List, sym, subst}
-use Rattle.std.specs.Prelude.{slice_set}
-use Rattle.rank_defs.specs.declared.environment.Env.{Env}
-use Rattle.rank_defs.specs.declared.environment.Who.{Who}
-use Rattle.rank_defs.specs.declared.transaction.Aim.TheVariants.{Keep}
-use Rattle.rank_defs.specs.declared.transaction.Assign.{Assign}
-use Rattle.rank_defs.specs.declared.transaction.Transaction.{Transaction}
-use Rattle.rank_defs.specs.States.{SameState, Memory, memory_for, put_back}
-use Rattle.rank_defs.specs.Steps.{write}
-use Rattle.rank_core.specs.declared.node.NodeState.{NodeState}
-use Rattle.rank_core.specs.Node.{state_of, step_of, HasState}
+use Rattle.rank_core.proofs.Prelude.{◌≡◌, sym, subst, List, ℕ, slice_set, Memory, SameState, memory_for, put_back, write, Env, Who, Keep, Assign, Transaction, state_of, step_of, HasState, NodeState}
 use Rattle.rank_core.proofs.NoLines.{put_back-unchanged}
 
 -- no other value is put back, so all others are unchanged

@@ -1,10 +1,8 @@
 -- Name lookup in the code's table.
-use Rattle.std.proofs.Common.{rules, arith, ◌≡◌, ◌<◌, ◌+◌, ◌∙◌, ℕ, List, [], ◌∷◌, true, false, map, drop, get_or, length, Some, refl, sym}
-use Rattle.std.proofs.lemmas.List.{drop_more}
+use Rattle.rank_core.proofs.Prelude.{◌≡◌, sym, rules, ◌∙◌, List, arith, [], length, ℕ, map, refl, ◌∷◌, Some, drop, false, ◌<◌, true, ◌+◌, get_or, drop_more, program_named, row, program}
 use Rattle.std.specs.Str.{bytes_eq}
 use Rattle.rank_defs.specs.Builtins.{same_name}
 use Rattle.rank_core.specs.declared.builtins.Row.{Row}
-use Rattle.rank_core.specs.Table.{program, row, program_named}
 
 -- `==` of names agrees with the definition
 agree : (a b : List ℕ) → bytes_eq a b ≡ same_name b a

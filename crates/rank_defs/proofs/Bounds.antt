@@ -1,18 +1,7 @@
 -- Values at and just outside the bounds of transactions, states and environments.
-use Rattle.std.proofs.Common.{ℕ, zero, suc, true, [], ◌∷◌, refl, arith, lit≤}
-use Rattle.std.specs.Prelude.{pos, negsuc}
-use Rattle.std.specs.Int.Signed.{le_z_yes, lt_z_yes, clash_ℤ}
-use Rattle.rank_defs.specs.declared.environment.Env.{Env}
-use Rattle.rank_defs.specs.declared.expression.Op.TheVariants.{Add, Mul, Less}
-use Rattle.rank_defs.specs.declared.expression.Var.TheVariants.{Len, Now, Keep, Each}
+use Rattle.rank_defs.proofs.Prelude.{refl, ℕ, arith, true, [], ◌∷◌, suc, zero, lit≤, clash_ℤ, le_z_yes, lt_z_yes, pos, negsuc, fifo, rr, set, Formula, two, choice, number, variable, negation, span, ArePartsNarrow, declared, range, IsShaped, AreWithin, IsEnvInRange, IsSpan, AreDeclared, IsAim, IsShapedAssignment, IsInside, nothing, truth, FitsWide, Env, Add, Mul, Less, Len, Now}
+use Rattle.rank_defs.specs.declared.expression.Var.TheVariants.{Keep, Each}
 use Rattle.rank_defs.specs.declared.transaction.Aim.TheVariants.{Rank as AimRank, Keep as AimKeep, Each as AimEach}
-use Rattle.rank_defs.specs.Formulas.{Formula, number, variable, two, negation, choice}
-use Rattle.rank_defs.specs.Programs.{span}
-use Rattle.rank_defs.specs.Values.{truth, nothing, FitsWide}
-use Rattle.rank_defs.specs.Shapes.{IsSpan, IsAim, AreDeclared, IsShapedAssignment, IsShaped, AreWithin, IsEnvInRange}
-use Rattle.rank_defs.specs.Ranges.{range, declared, ArePartsNarrow}
-use Rattle.rank_defs.specs.Tame.{IsInside}
-use Rattle.rank_defs.specs.Builtins.{set, fifo, rr}
 
 -- all three numbers of a span may be equal, up to the greatest rank
 span_of_one : IsSpan (span 4611686018427387903 4611686018427387903 4611686018427387903)

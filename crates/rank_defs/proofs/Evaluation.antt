@@ -1,15 +1,6 @@
 -- Lemmas for an evaluator, for operands that Rust skips and the definition reads.
-use Rattle.std.proofs.Common.{◌≡◌, ℕ, Bool, true, false, refl, ap, subst, sym, ◌∙◌}
-use Rattle.std.specs.Prelude.{ℤ}
-use Rattle.rank_defs.specs.declared.expression.Op.{Op}
-use Rattle.rank_defs.specs.declared.expression.Op.TheVariants.{And, Or}
+use Rattle.rank_defs.proofs.Prelude.{refl, ℕ, ◌≡◌, false, true, Bool, subst, ap, ◌∙◌, sym, ℤ, IsSafe, Formula, two, choice, counts, range_of, sort_of, tells, AreInside, IsInside, nothing, truth, FitsWide, Value, num, value_of, apply, chosen, Op, And, Or, Range}
 use Rattle.rank_defs.specs.declared.expression.Var.{Var as Name}
-use Rattle.rank_defs.specs.declared.range.Range.{Range}
-use Rattle.rank_defs.specs.Formulas.{Formula, two, choice}
-use Rattle.rank_defs.specs.Values.{Value, num, truth, nothing, value_of, apply, chosen, FitsWide}
-use Rattle.rank_defs.specs.Ranges.{counts, tells, sort_of, range_of}
-use Rattle.rank_defs.specs.Checks.{IsSafe}
-use Rattle.rank_defs.specs.Tame.{IsInside, AreInside}
 use Rattle.rank_defs.proofs.ValueIntervals.{number_in, truth_in, value_fits}
 
 -- a safe number's value lies in its interval

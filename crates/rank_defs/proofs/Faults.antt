@@ -1,15 +1,6 @@
 -- Transactions are checked exactly if no assignment is at fault.
-use Rattle.std.proofs.Common.{◌≡◌, ◌≢◌, ◌≤◌, ◌⊎◌, inl, inr, ℕ, List, [], ◌∷◌, ◌++◌, map, Bool, true, false, refl, arith}
-use Rattle.std.specs.Prelude.{pos, neg_ℤ, ◌≤ℤ◌, ◌^◌, ℤ}
-use Rattle.std.specs.List.{AllByRecursion}
-use Rattle.std.proofs.lemmas.Int.{by_lt_z}
-use Rattle.std.specs.Int.Signed.{clash_ℤ}
+use Rattle.rank_defs.proofs.Prelude.{refl, ℕ, arith, ◌≡◌, false, true, [], ◌∷◌, List, ◌≤◌, Bool, ◌≢◌, ◌++◌, ◌^◌, inl, inr, map, ◌⊎◌, by_lt_z, clash_ℤ, AllByRecursion, pos, ℤ, ◌≤ℤ◌, neg_ℤ, IsCheckedAssignment, entry, AreChecked, Clashes, Entry, IsWide, MayDivideByZero, SomeAt, IsLeastAt, NoneAt, entries, Formula, two, choice, number, variable, negation, Program, Assignment, ArePartsNarrow, declared, IsNarrow, counts, range_of, sort_of, parts_divide, tells, Sort, clash, Range}
 use Rattle.rank_defs.specs.declared.expression.Var.{Var as Name}
-use Rattle.rank_defs.specs.declared.range.Range.{Range}
-use Rattle.rank_defs.specs.Formulas.{Formula, number, variable, two, negation, choice}
-use Rattle.rank_defs.specs.Programs.{Assignment, Program}
-use Rattle.rank_defs.specs.Ranges.{Sort, counts, tells, clash, sort_of, range_of, declared, IsNarrow, ArePartsNarrow, parts_divide}
-use Rattle.rank_defs.specs.Checks.{IsCheckedAssignment, AreChecked, Entry, entry, entries, Clashes, IsWide, MayDivideByZero, SomeAt, NoneAt, IsLeastAt}
 use Rattle.rank_defs.specs.Laws.{IsFaultless}
 
 -- a fault in one of two lists

@@ -1,9 +1,5 @@
 -- Products and quotients lie between those at the ends of the intervals.
-use Rattle.std.proofs.Common.{◌≡◌, ℕ, zero, suc, ◌*◌, ◌/◌, ◌<◌, ◌≤◌, ◌≢◌, false, refl, subst, arith}
-use Rattle.std.specs.Prelude.{ℤ, pos, negsuc, ◌*ℤ◌, ◌≤ℤ◌, int_div}
-use Rattle.std.specs.Int.{int_min, int_max}
-use Rattle.rank_defs.specs.Ranges.{range, holds_zero}
-use Rattle.std.proofs.lemmas.Int.{ints, clamps}
+use Rattle.rank_defs.proofs.Prelude.{refl, ℕ, arith, ◌≡◌, false, ◌≤◌, subst, ◌≢◌, suc, zero, ◌*◌, ◌/◌, ◌<◌, ints, clamps, int_max, int_min, pos, ℤ, ◌≤ℤ◌, negsuc, int_div, ◌*ℤ◌, range, holds_zero}
 use Rattle.std.proofs.Math.IntN.{*ℤ_comm}
 use Rattle.std.proofs.Math.Nat.{mul-le-mul_left, mul-le-mul_right, div-mul-le_self}
 use Rattle.std.proofs.lemmas.Nat.{le-div}

@@ -1,8 +1,6 @@
 -- The least line at fault in a list, from those in its parts.
-use Rattle.std.proofs.Common.{◌≡◌, ◌≤◌, inl, inr, ℕ, List, [], ◌∷◌, ◌++◌, map, min, Option, Some, None, refl, arith, subst}
+use Rattle.rank_defs.proofs.Prelude.{refl, ℕ, arith, ◌≡◌, [], ◌∷◌, List, ◌≤◌, subst, ◌++◌, None, Option, Some, inl, inr, map, min, entry, Entry, SomeAt, IsLeastLine, lesser_line, Program, Assignment, assignments}
 use Rattle.std.proofs.lemmas.Bool.{cases_lt}
-use Rattle.rank_defs.specs.Programs.{Assignment, Program, assignments}
-use Rattle.rank_defs.specs.Checks.{Entry, entry, SomeAt, IsLeastLine, lesser_line}
 use Rattle.rank_defs.proofs.Faults.{SomeAt-left, SomeAt-right, SomeAt-append}
 
 -- an empty list has no fault

@@ -1,3 +1,4 @@
+pub mod Prelude
 pub mod IntervalEnds
 pub mod ValueIntervals
 pub mod NarrowIntervals

@@ -1,15 +1,7 @@
 -- Narrow intervals.
-use Rattle.std.proofs.Common.{◌^◌, Option, arith, false, true, cond, to_z, of_z}
+use Rattle.rank_defs.proofs.Prelude.{arith, false, true, ◌^◌, cond, Option, of_z, to_z, ints, clamps, to_z-of_z, int_max, int_min, w128, pos, ℤ, ◌≤ℤ◌, int_div, neg_ℤ, FitsSigned, Formula, two, choice, number, variable, negation, ArePartsNarrow, range, IsNarrow, range_of, holds_zero, AreOrdered, range_of_two, IsProper, corners, hull_of, reach, Op, Add, Mul, Div, Max, Min, Sub, Range}
 use Rattle.std.specs.Option.{SomeIff}
-use Rattle.std.specs.Prelude.{ℤ, pos, neg_ℤ, int_div, ◌≤ℤ◌, FitsSigned}
-use Rattle.std.specs.Int.{int_min, int_max, w128}
-use Rattle.std.proofs.lemmas.Int.{ints, clamps, to_z-of_z}
-use Rattle.rank_defs.specs.declared.range.Range.{Range}
-use Rattle.rank_defs.specs.declared.expression.Op.{Op}
-use Rattle.rank_defs.specs.declared.expression.Op.TheVariants.{Add, Sub, Mul, Div, Min, Max}
 use Rattle.rank_defs.specs.declared.expression.Var.{Var as Name}
-use Rattle.rank_defs.specs.Formulas.{Formula, number, variable, two, negation, choice}
-use Rattle.rank_defs.specs.Ranges.{range, range_of, range_of_two, reach, holds_zero, hull_of, corners, IsNarrow, IsProper, ArePartsNarrow, AreOrdered}
 use Rattle.rank_defs.proofs.ValueIntervals.{narrow_fits}
 
 -- the four results at the ends fit if their hull is narrow

@@ -1,9 +1,7 @@
 -- A step changes the variables of one child or flow.
-use Rattle.std.proofs.Common.{◌≡◌, ◌≢◌, Bool, true, false, refl, ap, arith, rules}
+use Rattle.rank_defs.proofs.Prelude.{refl, arith, ◌≡◌, false, true, Bool, ◌≢◌, ap, rules, Memory, State, put_back, same_who, same_flow, Who}
 use Rattle.rank_defs.specs.declared.environment.FlowKey.{FlowKey}
-use Rattle.rank_defs.specs.declared.environment.Who.{Who}
 use Rattle.rank_defs.specs.declared.environment.Who.TheVariants.{Child, Flow}
-use Rattle.rank_defs.specs.States.{State, Memory, put_back, same_flow, same_who}
 
 pub same_flow-refl : (f : FlowKey) → same_flow f f ≡ true
 same_flow-refl f = grind (arith, rules)

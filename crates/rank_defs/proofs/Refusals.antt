@@ -1,12 +1,6 @@
 -- Worked examples of rejected transactions, with their line numbers.
-use Rattle.std.proofs.Common.{ℕ, List, [], ◌∷◌, Some, None, refl, arith}
-use Rattle.std.specs.Int.Signed.{le_z_yes, lt_z_yes, clash_ℤ}
-use Rattle.rank_defs.specs.declared.expression.Op.TheVariants.{Add, Mul, Div, Less}
-use Rattle.rank_defs.specs.declared.expression.Var.TheVariants.{Len, Now, Prio}
+use Rattle.rank_defs.proofs.Prelude.{refl, ℕ, arith, [], ◌∷◌, List, None, Some, clash_ℤ, le_z_yes, lt_z_yes, entry, AreChecked, Clashes, IsWide, MayDivideByZero, ClashesFirstAt, DividesByZeroFirstAt, IsWideFirstAt, Formula, two, number, variable, Program, Assignment, Add, Mul, Div, Less, Len, Now, Prio}
 use Rattle.rank_defs.specs.declared.transaction.Aim.TheVariants.{Rank}
-use Rattle.rank_defs.specs.Formulas.{Formula, number, variable, two}
-use Rattle.rank_defs.specs.Programs.{Assignment, Program}
-use Rattle.rank_defs.specs.Checks.{entry, AreChecked, Clashes, IsWide, MayDivideByZero, ClashesFirstAt, IsWideFirstAt, DividesByZeroFirstAt}
 use Rattle.rank_defs.proofs.LeastFaults.{least-clear, least-fault, least-append}
 use Rattle.rank_defs.proofs.Table.{narrow_to}
 

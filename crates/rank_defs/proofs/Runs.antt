@@ -1,14 +1,6 @@
 -- Assignments that run in sequence.
-use Rattle.std.proofs.Common.{◌≡◌, ◌≢◌, ℕ, List, [], ◌∷◌, ◌++◌, refl, ◌∙◌}
-use Rattle.std.specs.List.{AllByRecursion}
-use Rattle.rank_defs.specs.declared.environment.Env.{Env}
-use Rattle.rank_defs.specs.declared.environment.Who.{Who}
-use Rattle.rank_defs.specs.declared.transaction.Aim.{Aim}
+use Rattle.rank_defs.proofs.Prelude.{refl, ℕ, ◌≡◌, [], ◌∷◌, List, ◌≢◌, ◌++◌, ◌∙◌, AllByRecursion, Program, Assignment, IsShaped, Memory, State, memory_for, pop_step, run, assigned, write, written, Env, Who, Aim}
 use Rattle.rank_defs.specs.declared.transaction.Aim.TheVariants.{Rank, Keep, Each}
-use Rattle.rank_defs.specs.Programs.{Assignment, Program}
-use Rattle.rank_defs.specs.States.{State, Memory, memory_for}
-use Rattle.rank_defs.specs.Steps.{write, written, assigned, run, pop_step}
-use Rattle.rank_defs.specs.Shapes.{IsShaped}
 
 pub run-append : (p : Program) (env : Env) (xs ys : List Assignment) (m : Memory) → run p env (xs ++ ys) m ≡ run p env ys (run p env xs m)
 run-append p env [] ys m = refl

@@ -1,18 +1,6 @@
 -- Steps of checked transactions are tame and keep the variables in their ranges.
-use Rattle.std.proofs.Common.{ℕ, ◌≤◌, List, [], ◌∷◌, ◌++◌, true, false, cond, arith}
-use Rattle.std.specs.List.{AllByRecursion}
-use Rattle.rank_defs.specs.declared.environment.Env.{Env}
-use Rattle.rank_defs.specs.declared.environment.Who.{Who}
-use Rattle.rank_defs.specs.declared.transaction.Aim.{Aim}
+use Rattle.rank_defs.proofs.Prelude.{ℕ, arith, false, true, [], ◌∷◌, List, ◌≤◌, ◌++◌, cond, AllByRecursion, IsCheckedAssignment, IsChecked, Program, Assignment, max_rank, target, declared, IsShaped, AreWithin, IsEnvInRange, IsMemoryInRange, IsStateInRange, Memory, State, memory_for, put_back, same_who, variable_in, first_state, pop_step, run, assigned, push_step, write, written, IsAlwaysTame, IsSafePop, IsSafePush, IsTame, IsTameAssignment, value_of, Env, Who, Aim}
 use Rattle.rank_defs.specs.declared.transaction.Aim.TheVariants.{Rank, Keep, Each}
-use Rattle.rank_defs.specs.Programs.{Assignment, Program, target, max_rank}
-use Rattle.rank_defs.specs.Values.{value_of}
-use Rattle.rank_defs.specs.States.{State, Memory, memory_for, put_back, same_who, variable_in, first_state}
-use Rattle.rank_defs.specs.Steps.{write, written, assigned, run, push_step, pop_step}
-use Rattle.rank_defs.specs.Shapes.{IsShaped, AreWithin, IsStateInRange, IsMemoryInRange, IsEnvInRange}
-use Rattle.rank_defs.specs.Ranges.{declared}
-use Rattle.rank_defs.specs.Checks.{IsCheckedAssignment, IsChecked}
-use Rattle.rank_defs.specs.Tame.{IsTameAssignment, IsTame, IsAlwaysTame, IsSafePush, IsSafePop}
 use Rattle.rank_defs.proofs.ValueIntervals.{parts_in, parts_narrow}
 use Rattle.rank_defs.proofs.Spans.{within-set, within-firsts, clamped-within, target-proper, variables-inside}
 

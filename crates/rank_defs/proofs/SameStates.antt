@@ -1,11 +1,5 @@
 -- Steps from equal states.
-use Rattle.std.proofs.Common.{◌≡◌, ℕ, true, false, cond, refl, sym, ap, subst, ◌∙◌}
-use Rattle.rank_defs.specs.declared.environment.Env.{Env}
-use Rattle.rank_defs.specs.declared.environment.Who.{Who}
-use Rattle.rank_defs.specs.Programs.{Program}
-use Rattle.rank_defs.specs.States.{State, SameState, Memory, memory_for, put_back, same_who}
-use Rattle.rank_defs.specs.Steps.{run, push_step, after_push, pop_step, after_pop}
-use Rattle.rank_defs.specs.Shapes.{IsStateInRange, AreWithin}
+use Rattle.rank_defs.proofs.Prelude.{refl, ℕ, ◌≡◌, false, true, subst, ap, cond, ◌∙◌, sym, Program, AreWithin, IsStateInRange, Memory, State, memory_for, put_back, same_who, SameState, pop_step, run, push_step, after_pop, after_push, Env, Who}
 
 pub same-refl : (s : State) → SameState s s
 same-refl s = record { keeps = refl; eaches = λ who. refl }

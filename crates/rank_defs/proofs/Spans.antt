@@ -1,21 +1,8 @@
 -- Numbers inside the spans of a transaction.
-use Rattle.std.proofs.Common.{◌≡◌, ℕ, zero, suc, ◌≤◌, List, [], ◌∷◌, length, refl, ap, arith}
-use Rattle.std.specs.Prelude.{ℤ, pos, negsuc, ◌≤ℤ◌, unsigned_abs, slice_set, slice_index}
-use Rattle.std.specs.Int.{int_min, int_max}
-use Rattle.std.specs.List.{AllByRecursion}
-use Rattle.std.proofs.lemmas.Int.{ints, clamps}
-use Rattle.rank_defs.specs.declared.environment.Env.{Env}
-use Rattle.rank_defs.specs.declared.expression.Var.TheVariants.{Len, Now, Prio, Weight, Slack, Rank, Keep, Each}
-use Rattle.rank_defs.specs.declared.transaction.Aim.{Aim}
+use Rattle.rank_defs.proofs.Prelude.{refl, ℕ, arith, ◌≡◌, [], ◌∷◌, List, ◌≤◌, ap, suc, zero, length, ints, clamps, int_max, int_min, AllByRecursion, pos, ℤ, ◌≤ℤ◌, negsuc, slice_index, slice_set, unsigned_abs, Program, max_rank, target, span_at, declared, AreOrdered, IsShaped, AreWithin, IsEnvInRange, IsSpan, IsMemoryInRange, Memory, variable_in, firsts, clamped, AreInside, nothing, truth, Value, num, Env, Len, Now, Prio, Slack, Weight, Aim}
+use Rattle.rank_defs.specs.declared.expression.Var.TheVariants.{Rank, Keep, Each}
 use Rattle.rank_defs.specs.declared.transaction.Aim.TheVariants.{Rank as AimRank, Keep as AimKeep, Each as AimEach}
 use Rattle.rank_defs.specs.declared.transaction.Span.{Span}
-use Rattle.rank_defs.specs.Programs.{Program, span_at, target, max_rank}
-use Rattle.rank_defs.specs.Values.{Value, num, truth, nothing}
-use Rattle.rank_defs.specs.States.{Memory, firsts, variable_in}
-use Rattle.rank_defs.specs.Steps.{clamped}
-use Rattle.rank_defs.specs.Shapes.{IsSpan, IsShaped, AreWithin, IsMemoryInRange, IsEnvInRange}
-use Rattle.rank_defs.specs.Ranges.{declared, AreOrdered}
-use Rattle.rank_defs.specs.Tame.{AreInside}
 
 -- a span whose low end is at most its high end, which is at most the greatest rank
 pub record IsProperSpan (s : Span) : Type 0 where

@@ -1,14 +1,6 @@
 -- The built-in transactions are well-shaped and checked.
-use Rattle.std.proofs.Common.{◌≡◌, ◌≤◌, ℕ, ◌^◌, List, [], ◌∷◌, Bool, true, false, ◌&&◌, refl, arith, rules, lit≤}
-use Rattle.std.specs.Prelude.{◌==◌, pos}
-use Rattle.std.proofs.lemmas.Int.{ints}
-use Rattle.rank_defs.specs.Programs.{Assignment, Program, max_rank}
-use Rattle.rank_defs.specs.Formulas.{depth_of}
-use Rattle.rank_defs.specs.Shapes.{IsSpan, IsShaped, IsShapedAssignment, AreDeclared, IsAim}
-use Rattle.rank_defs.specs.Ranges.{range, declared, IsNarrow, ArePartsNarrow, counts, sort_of, parts_divide}
-use Rattle.rank_defs.specs.Checks.{IsChecked, IsCheckedAssignment}
+use Rattle.rank_defs.proofs.Prelude.{refl, ℕ, arith, ◌≡◌, false, true, [], ◌∷◌, List, ◌≤◌, Bool, ◌^◌, rules, lit≤, ◌&&◌, ints, pos, ◌==◌, fifo, rr, counter, lstf, same_name, shortest, stfq, strict, IsCheckedAssignment, IsChecked, depth_of, Program, Assignment, max_rank, ArePartsNarrow, declared, range, IsNarrow, counts, sort_of, parts_divide, IsShaped, IsSpan, AreDeclared, IsAim, IsShapedAssignment}
 use Rattle.rank_defs.specs.Laws.{BuiltinsAreChecked}
-use Rattle.rank_defs.specs.Builtins.{fifo, strict, shortest, lstf, rr, stfq, counter, same_name}
 
 counter-span : IsSpan counter
 counter-span = record { low = omega arith; high = omega arith; most = omega arith }

@@ -1,16 +1,6 @@
 -- The value of an expression lies in its interval.
-use Rattle.std.proofs.Common.{◌≡◌, ℕ, zero, suc, ◌≢◌, Bool, true, false, ◌&&◌, refl, subst, arith, rules}
-use Rattle.std.specs.Prelude.{ℤ, pos, negsuc, neg_ℤ, ◌≤ℤ◌, int_div, FitsSigned, ◌^◌}
-use Rattle.std.specs.Int.{w128}
-use Rattle.std.proofs.lemmas.Int.{ints, clamps}
-use Rattle.rank_defs.specs.declared.expression.Op.{Op}
-use Rattle.rank_defs.specs.declared.expression.Op.TheVariants.{Add, Sub, Mul, Div, Min, Max}
+use Rattle.rank_defs.proofs.Prelude.{refl, ℕ, arith, ◌≡◌, false, true, Bool, subst, ◌≢◌, suc, zero, ◌^◌, rules, ◌&&◌, ints, clamps, w128, pos, ℤ, ◌≤ℤ◌, negsuc, int_div, neg_ℤ, FitsSigned, Formula, two, choice, number, variable, negation, group, ArePartsNarrow, range, IsNarrow, counts, range_of, sort_of, holds_zero, parts_divide, tells, Sort, clash, range_of_two, joined_range, may_divide, sort_of_choice, sort_of_negation, sort_of_two, widest, AreInside, IsInside, ArePartsIn, HasValueIn, nothing, truth, FitsWide, Value, num, value_of, apply, chosen, negated, quotient, Op, Add, Mul, Div, Max, Min, Sub, Range}
 use Rattle.rank_defs.specs.declared.expression.Var.{Var as Name}
-use Rattle.rank_defs.specs.declared.range.Range.{Range}
-use Rattle.rank_defs.specs.Formulas.{Formula, number, variable, two, negation, choice, group}
-use Rattle.rank_defs.specs.Values.{Value, num, truth, nothing, value_of, apply, quotient, negated, chosen, FitsWide}
-use Rattle.rank_defs.specs.Ranges.{Sort, counts, tells, clash, sort_of, sort_of_two, sort_of_negation, sort_of_choice, range, range_of, range_of_two, joined_range, holds_zero, may_divide, parts_divide, widest, IsNarrow, ArePartsNarrow}
-use Rattle.rank_defs.specs.Tame.{IsInside, AreInside, HasValueIn, ArePartsIn}
 use Rattle.rank_defs.proofs.IntervalEnds.{Between-mul_left, Between-mul_right, Between-div_left, Between-div_right, within_corners}
 
 -- a value of this type, inside the interval if it is a number

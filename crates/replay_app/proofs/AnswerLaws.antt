@@ -1,28 +1,15 @@
 -- Contents that are known to the contract, and the statuses of endings.
-use Rattle.std.proofs.Common.{◌≡◌, ◌<◌, ◌⊎◌, ℕ, Bool, Option, None, Some, List, [], ◌∷◌, map, refl, ap, ◌∙◌, arith, inl, inr}
-use Rattle.std.specs.Prelude.{IfSome, Result, Ok, Err, IfOk}
+use Rattle.replay_app.proofs.Prelude.{ℕ, List, ◌≡◌, refl, ap, ◌∙◌, [], ◌∷◌, Option, Some, None, arith, inr, inl, map, ◌<◌, Bool, ◌⊎◌, Err, Result, Ok, IfOk, IfSome, Stop, Sense, ForwardEnding, Ending, BadCapture, PastLast, Whole, CanEndSo, entries_in, senses_of, ending_status, status_code, IsOneOf, IsStop, forward_status, run_status, IsRefusal, forward_statuses, pace_statuses, paced_statuses, run_statuses, Pacing, forward, link, script, AreTold, Status, Done, BadMap, BadPolicy, BadScript, BadTarget, BadTree, LateStart, NoForm, NoRoom, OtherLink, OverLimit}
 use Rattle.outside_core.specs.Files.{KeepsFiles}
 use Rattle.policy_text_defs.specs.Canonical.{canonical_text}
-use Rattle.policy_text_defs.specs.Sense.{Sense}
 use Rattle.policy_text.specs.Entries.{Numbered, entry_of, sense_at}
 use Rattle.policy_text.specs.declared.lines.Lines.{Lines}
-use Rattle.sched_defs.specs.declared.ending.Ending.{Ending}
-use Rattle.sched_defs.specs.declared.ending.Ending.TheVariants.{Whole, BadCapture, PastLast}
-use Rattle.replay_app.specs.Policies.{entries_in, senses_of}
-use Rattle.replay_app.specs.Scripts.{ending_status}
-use Rattle.replay_app.specs.Statuses.{IsOneOf, IsRefusal, IsStop, run_statuses, pace_statuses, paced_statuses, forward_statuses, run_status, forward_status, status_code}
 use Rattle.replay_app.specs.Stops.{stop_status}
 use Rattle.replay_app.specs.declared.status.Status.TheVariants as status
-use Rattle.replay_app.specs.declared.status.Status.TheVariants.{Done, NoForm, BadPolicy, BadTarget, NoRoom, BadScript, BadTree, BadMap, LateStart, OtherLink, OverLimit}
 use Rattle.outside_core.specs.declared.stop.Stop.TheVariants.{Source, Sink, Memory}
-use Rattle.replay_app.specs.declared.status.Status.{Status}
-use Rattle.outside_core.specs.declared.stop.Stop.{Stop}
-use Rattle.sched_run.specs.Steps.{CanEndSo}
-use Rattle.sched_capture.specs.declared.departures.ForwardEnding.{ForwardEnding}
 use Rattle.sched_capture.specs.declared.departures.ForwardEnding.TheVariants as forward_ending
 use Rattle.sched_run.specs.declared.pace.Pace.{Pace}
 use Rattle.sched_run.specs.declared.pace.Pace.TheVariants as pace
-use Rattle.replay_app.specs.Words.{AreTold, Pacing, script, link, forward}
 
 -- a content that was known is still known after other files were read
 pub told-later : {S : Type 0} (lends : S → List ℕ → Bool) (content : S → List ℕ → Option (List ℕ)) (old new : S) (contents : List ℕ → List ℕ) (names : List (List ℕ))

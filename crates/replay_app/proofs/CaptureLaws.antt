@@ -1,23 +1,6 @@
 -- A run over a capture that taps watch, with their lines.
-use Rattle.std.proofs.Common.{◌≡◌, ap, ◌∙◌, append-nil, inr, ℕ, Option, None, Some, List, []}
-use Rattle.std.specs.Prelude.{Ok, Err, IfSome}
-use Rattle.outside_core.specs.Written.{Appended, AppendedPrefix}
-use Rattle.outside_core.specs.declared.stop.Stop.{Stop}
-use Rattle.outside_core.proofs.WrittenLaws.{appended_in_turn, prefix_in_turn, prefix_of_longer}
-use Rattle.fabric_core.specs.declared.fabric.Fabric.{Ghosts}
-use Rattle.policy_rules.specs.Resolved.{Resolved}
+use Rattle.replay_app.proofs.Prelude.{ℕ, List, ◌≡◌, ap, ◌∙◌, [], Option, Some, None, inr, append-nil, Err, Ok, IfSome, Ghosts, appended_in_turn, prefix_in_turn, prefix_of_longer, Appended, AppendedPrefix, Stop, Resolved, paced_answer, shown_by, HaveWatched, Ending, LeavesPart, Leaves, FabricRun, run_of, Laid, Sight, Answer, IsTold, IsLeft, laid_run, direct_run, OfLines, ending_status, watching_in, run_status, Status}
 use Rattle.sched_defs.specs.Pace.{Pace}
-use Rattle.sched_defs.specs.declared.ending.Ending.{Ending}
-use Rattle.sched_embedded.specs.Fabrics.{FabricRun, Leaves, LeavesPart, run_of}
-use Rattle.sched_embedded.specs.Laid.{Laid}
-use Rattle.sched_capture.specs.Answers.{paced_answer, shown_by, HaveWatched}
-use Rattle.tap_core.specs.Watching.{Sight}
-use Rattle.replay_app.specs.Answer.{Answer, IsTold, IsLeft}
-use Rattle.replay_app.specs.Output.{direct_run, laid_run}
-use Rattle.replay_app.specs.Scripts.{OfLines, ending_status}
-use Rattle.replay_app.specs.Stages.{watching_in}
-use Rattle.replay_app.specs.Statuses.{run_status}
-use Rattle.replay_app.specs.declared.status.Status.{Status}
 use Rattle.replay_app.proofs.AnswerLaws.{same_status}
 use Rattle.replay_app.proofs.FollowLaws.{exactly_told, exactly_done}
 use Rattle.replay_app.proofs.TapLaws.{lines_told}

@@ -1,17 +1,5 @@
 -- Outputs that depend on inputs, which may be rejected.
-use Rattle.std.proofs.Common.{◌≡◌, ℕ, Option, List, ◌∷◌, refl, ap, sym, subst, inl, inr}
-use Rattle.std.specs.Prelude.{Result, Ok, Err, IfOk, OnOk, OnErr}
-use Rattle.std.proofs.lemmas.Result.{IfOk-weaker, on_ok_weaker, on_err_weaker}
-use Rattle.outside_core.specs.Written.{Appended, AppendedPrefix}
-use Rattle.report_core.specs.declared.fault.FaultKind.{FaultKind}
-use Rattle.fabric_core.specs.declared.fabric.Fabric.{Ghosts}
-use Rattle.sched_embedded.specs.Fabrics.{IsAsItWas, LeavesPart}
-use Rattle.tap_core.specs.Watching.{Sight}
-use Rattle.replay_app.specs.Answer.{Answer, refusal, Each, IsTold, IsDone, LeavesBoth, IsLeft}
-use Rattle.replay_app.specs.Follows.{Follows, stops, goes_on}
-use Rattle.replay_app.specs.Statuses.{IsOneOf, status_code, kind_status}
-use Rattle.replay_app.specs.declared.status.Status.{Status}
-use Rattle.outside_core.specs.declared.stop.Stop.{Stop}
+use Rattle.replay_app.proofs.Prelude.{subst, sym, ℕ, List, ◌≡◌, refl, ap, ◌∷◌, Option, inr, inl, on_ok_weaker, on_err_weaker, IfOk-weaker, Err, Result, Ok, IfOk, OnOk, OnErr, Ghosts, Appended, AppendedPrefix, Stop, FaultKind, LeavesPart, IsAsItWas, Sight, Answer, IsTold, IsLeft, IsDone, refusal, Each, LeavesBoth, Follows, goes_on, stops, status_code, IsOneOf, kind_status, Status}
 
 -- nothing changed
 pub unchanged : {F : Type 0} (fabrics : Ghosts F) (f : F) → IsAsItWas fabrics f f

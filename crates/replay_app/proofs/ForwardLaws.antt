@@ -1,20 +1,6 @@
 -- Laws of a run whose departures are written as a capture.
-use Rattle.std.proofs.Common.{◌≡◌, ℕ, Option, None, Some, Result, Ok, Err, List, refl, sym, ap, subst}
-use Rattle.std.specs.Prelude.{IfSome}
-use Rattle.std.proofs.lemmas.Result.{on_ok_weaker}
-use Rattle.outside_core.specs.Written.{Appended, AppendedPrefix}
-use Rattle.outside_core.specs.declared.stop.Stop.{Stop}
-use Rattle.policy_rules.specs.Resolved.{Resolved}
-use Rattle.fabric_core.specs.declared.fabric.Fabric.{Ghosts}
-use Rattle.sched_embedded.specs.Laid.{Laid}
-use Rattle.sched_embedded.specs.Fabrics.{run_of, Leaves, LeavesPart}
+use Rattle.replay_app.proofs.Prelude.{subst, sym, ℕ, List, ◌≡◌, refl, ap, Option, Some, None, on_ok_weaker, Err, Result, Ok, IfSome, Ghosts, Appended, AppendedPrefix, Stop, Resolved, ForwardEnding, LeavesPart, Leaves, run_of, Laid, Sight, Answer, IsTold, IsLeft, HoldsRun, forward_run, status_code, forward_status, Status}
 use Rattle.sched_capture.specs.Forwards.{forward_answer}
-use Rattle.sched_capture.specs.declared.departures.ForwardEnding.{ForwardEnding}
-use Rattle.tap_core.specs.Watching.{Sight}
-use Rattle.replay_app.specs.declared.status.Status.{Status}
-use Rattle.replay_app.specs.Answer.{Answer, IsTold, HoldsRun, IsLeft}
-use Rattle.replay_app.specs.Output.{forward_run}
-use Rattle.replay_app.specs.Statuses.{status_code, forward_status}
 use Rattle.replay_app.proofs.FollowLaws.{exactly_told}
 use Rattle.sched_defs.specs.declared.rate.LinkRate.{LinkRate}
 

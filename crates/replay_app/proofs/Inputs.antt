@@ -1,35 +1,23 @@
 -- Each input is rejected with only one code and position, or accepted as only one value.
-use Rattle.std.proofs.Common.{◌≡◌, ◌≢◌, ◌≤◌, ◌<◌, ℕ, suc, List, [], ◌∷◌, length, refl, ap, sym, subst, ◌∙◌, arith}
+use Rattle.replay_app.proofs.Prelude.{subst, sym, ℕ, List, ◌≡◌, refl, ap, ◌∙◌, [], ◌∷◌, arith, length, ◌<◌, ◌≤◌, suc, ◌≢◌, All-cons, All-nil, IsEmbedding, image_map, levels, one-policy, AreAccepted, IsFault, line_of, AreRising, HasEntries, Target, Topology, complete, Tree, Address, IsPolicyRefused, IsPolicy, IsTextRefused, Judged, statements_refused, text_refused, IsPlacement, HasNoRoom, IsTargetOf, IsTargetRefused}
 use Rattle.std.specs.List.{All}
-use Rattle.std.proofs.lemmas.List.Elements.{All-nil, All-cons}
 use Rattle.std.proofs.lemmas.List.Kept.{AllPairs-cons}
-use Rattle.tree_defs.specs.Tree.{Tree, Address}
-use Rattle.tree_defs.specs.Topology.{Topology, complete}
-use Rattle.embed_defs.specs.Levels.{levels}
 use Rattle.embed_defs.specs.Canonical.{IsCanonical}
-use Rattle.embed_defs.specs.Embedding.{IsEmbedding}
-use Rattle.embed_defs.specs.Images.{image_map}
 use Rattle.policy_text_defs.specs.Sense.{Entry}
-use Rattle.policy_text_defs.specs.Text.{HasEntries}
 use Rattle.policy_text_defs.proofs.TextLaws.{Entries-one}
-use Rattle.policy_rules.specs.Accepted.{AreAccepted, IsFault}
-use Rattle.policy_rules.specs.Codes.{code_of, line_of}
-use Rattle.policy_rules.specs.Entries.{AreRising}
+use Rattle.policy_rules.specs.Codes.{code_of}
 use Rattle.policy_rules.specs.declared.fault.PolicyFault.{PolicyFault}
 use Rattle.policy_rules.specs.declared.fault.PolicyFault.TheVariants.{NoMemory}
 use Rattle.policy_rules.proofs.OneFault.{one-fault, accepted-fault}
 use Rattle.policy_text.specs.Codes.{code_of as text_code, line_of as text_line}
 use Rattle.policy_text.proofs.EntryLaws.{Rises, entries_rise}
 use Rattle.policy_text.proofs.TextSteps.{entries_no_cause, one_cause}
-use Rattle.policy_core.proofs.OnePolicy.{one-policy}
 use Rattle.events_core.specs.Script as script
 use Rattle.events_core.proofs.ScriptLaws.{IsScript-one, IsFirstFault-one, IsScript-IsFirstFault}
-use Rattle.target_core.specs.declared.target.Target.{Target}
 use Rattle.target_core.proofs.OneTarget.{one_answer-holds}
 use Rattle.embed_defs.proofs.EmbeddingLaws.{canonical_placements_are_one-holds}
-use Rattle.replay_app.specs.Policies.{IsTextRefused, at_fault, IsPolicyRefused, text_refused, statements_refused, Judged, IsPolicy}
+use Rattle.replay_app.specs.Policies.{at_fault}
 use Rattle.replay_app.specs.Scripts as scripts
-use Rattle.replay_app.specs.Targets.{IsTargetRefused, IsTargetOf, HasNoRoom, IsPlacement}
 use Rattle.replay_app.proofs.FollowLaws.{AreOne}
 
 -- ---- a policy

@@ -1,6 +1,5 @@
 -- Contents that are too long to load.
-use Rattle.std.proofs.Common.{◌≡◌, ◌<◌, ℕ, Option, None, Some, List, length}
-use Rattle.std.specs.Prelude.{IfSome}
+use Rattle.replay_app.proofs.Prelude.{ℕ, List, ◌≡◌, Option, Some, None, length, ◌<◌, IfSome}
 
 pub unloaded : {T : Type 0} (loaded : Option T) (content : Option (List ℕ)) (most : ℕ) (P : List ℕ → Type 0) → loaded ≡ None → IfSome content (λ text. loaded ≡ None → most < length text)
     → ((text : List ℕ) → most < length text → P text) → IfSome content P

@@ -1,13 +1,7 @@
 -- The names of a policy's nodes, by their numbers and in preorder.
-use Rattle.std.proofs.Common.{◌≡◌, ℕ, ◌+◌, ◌<◌, ◌≤◌, List, [], ◌∷◌, ◌++◌, length, map, take, get_or, take_all, sym, ap, ◌∙◌, arith}
-use Rattle.std.proofs.lemmas.List.{get_or-map, length-map, map-append, take_more}
-use Rattle.tree_defs.specs.Tree.{nodes, most_nodes}
+use Rattle.replay_app.proofs.Prelude.{sym, ℕ, List, ◌≡◌, ap, ◌∙◌, [], ◌∷◌, arith, length, ◌++◌, map, ◌<◌, ◌≤◌, take, get_or, take_all, ◌+◌, get_or-map, length-map, map-append, take_more, count, listed, addresses, Policy, name_at, nodes, most_nodes, names_of}
 use Rattle.policy_core.specs.Numbering.{address_at, HasAt}
-use Rattle.policy_defs.specs.Policy.{Policy, name_at}
-use Rattle.embed_plan.specs.Preorder.{addresses}
 use Rattle.embed_plan.proofs.PlanLines.{name-told}
-use Rattle.embed_plan.proofs.PreorderAddresses.{count, listed}
-use Rattle.replay_app.specs.Via.{names_of}
 
 module _ (policy : Policy) (n : ℕ) where
   -- the name of the node with number `n`

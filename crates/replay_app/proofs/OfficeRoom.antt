@@ -1,17 +1,8 @@
 -- A target of three levels of arity 4 has room for the tree of the office policy.
-use Rattle.std.proofs.Common.{◌≡◌, ◌≤◌, ◌+◌, ◌∙◌, ℕ, [], ◌∷◌, refl, sym, subst, arith}
-use Rattle.tree_defs.specs.Tree.{Tree, SameShape, leaf, inner, none, more}
-use Rattle.tree_defs.specs.Topology.{Topology, topology_of, complete}
-use Rattle.embed_defs.specs.Target.{IsArity, IsInRange}
-use Rattle.embed_defs.specs.Levels.{Arities, levels}
-use Rattle.embed_defs.proofs.LevelLaws.{heights_in_range-holds}
-use Rattle.embed_defs.specs.Embedding.{HasEmbedding}
-use Rattle.embed_defs.specs.Laws.{AreWide}
+use Rattle.replay_app.proofs.Prelude.{subst, sym, ℕ, ◌≡◌, refl, ◌∙◌, [], ◌∷◌, arith, ◌≤◌, ◌+◌, heights_in_range-holds, HasEmbedding, AreWide, levels, Arities, IsInRange, IsArity, offices-alike, office_lines, Resolved, IsResolved, topology_of, Topology, complete, Tree, SameShape, inner, more, none}
+use Rattle.tree_defs.specs.Tree.{leaf}
 use Rattle.embed_defs.specs.Need.{AreNeedsOf, HoldsNeeds, FitsBelow, IsLeast}
 use Rattle.embed_defs.proofs.EmbeddingLaws.{embeddings_need_room-holds}
-use Rattle.policy_rules.specs.Resolved.{Resolved, IsResolved}
-use Rattle.policy_core.specs.Office.{office_lines}
-use Rattle.policy_core.proofs.OfficeTree.{offices-alike}
 
 pub in-range : IsInRange (4 ∷ 4 ∷ 4 ∷ []) 4
 in-range = record {

@@ -1,28 +1,10 @@
 -- For given arguments and file contents there is only one correct output.
-use Rattle.std.proofs.Common.{◌≡◌, ℕ, Bool, Option, List, sym, subst, ◌∙◌}
-use Rattle.std.specs.Prelude.{Result, Ok, Err, IfOk, OnOk, OnErr}
-use Rattle.outside_core.specs.Written.{Appended, AppendedPrefix}
+use Rattle.replay_app.proofs.Prelude.{subst, sym, ℕ, List, ◌≡◌, ◌∙◌, Option, Bool, Err, Result, Ok, IfOk, OnOk, OnErr, Appended, AppendedPrefix, Stop, Policy, Resolved, Link, plain_rate, Laid, Target, topology_of, Answer, IsTold, laid_run, forward_run, IsPaced, watchers, script_pace, status_code, IsPlanned, planned, plan_answer, names_of, Pacing, forward, link, replay, script, via, check, direct, no_form, plan, soak, Status}
 use Rattle.report_core.specs.declared.fault.FaultKind.TheVariants as kind
-use Rattle.tree_defs.specs.Topology.{topology_of}
-use Rattle.policy_defs.specs.Policy.{Policy}
 use Rattle.embed_plan.specs.Plan.{IsPlan}
 use Rattle.embed_plan.proofs.OnePlan.{one_plan}
-use Rattle.target_core.specs.declared.target.Target.{Target}
-use Rattle.replay_app.specs.Answer.{Answer, IsTold}
 use Rattle.replay_app.specs.Laws.{HaveOneAnswer}
-use Rattle.replay_app.specs.Targets.{IsPlanned, planned, plan_answer}
-use Rattle.replay_app.specs.Statuses.{status_code}
-use Rattle.replay_app.specs.declared.status.Status.{Status}
-use Rattle.outside_core.specs.declared.stop.Stop.{Stop}
-use Rattle.policy_rules.specs.Resolved.{Resolved}
-use Rattle.sched_defs.specs.SendTime.{plain_rate}
-use Rattle.sched_defs.specs.Pace.{Link}
-use Rattle.sched_embedded.specs.Laid.{Laid}
 use Rattle.tap_core.specs.Lists.{Entry}
-use Rattle.replay_app.specs.Output.{laid_run, forward_run, watchers, IsPaced}
-use Rattle.replay_app.specs.Scripts.{script_pace}
-use Rattle.replay_app.specs.Via.{names_of}
-use Rattle.replay_app.specs.Words.{Pacing, script, link, forward, replay, check, plan, direct, soak, via, no_form}
 use Rattle.replay_app.proofs.FollowLaws.{one-follows}
 use Rattle.replay_app.proofs.Inputs.{policies_are_one, targets_are_one, rooms_are_one, scripts_are_one}
 use Rattle.replay_app.proofs.ViaInputs.{topologies_are_one, maps_are_one, carried_are_one}

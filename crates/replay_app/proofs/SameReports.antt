@@ -1,31 +1,11 @@
 -- A run has the same report with a map and without one.
-use Rattle.std.proofs.Common.{◌≡◌, ◌∙◌, ℕ, Option, Some, None, false, List, [], ◌∷◌, ◌++◌, refl, sym, ap, subst}
-use Rattle.std.proofs.lemmas.List.{append-nil}
-use Rattle.tree_defs.specs.Tree.{Tree, Address}
-use Rattle.tree_defs.specs.Topology.{Topology, topology_of}
-use Rattle.target_core.specs.declared.target.Target.{Target}
-use Rattle.policy_rules.specs.Resolved.{Resolved}
+use Rattle.replay_app.proofs.Prelude.{subst, sym, ℕ, List, ◌≡◌, refl, ap, ◌∙◌, [], ◌∷◌, Option, Some, None, ◌++◌, append-nil, false, Step, Resolved, paced_answer, shown_by, Ending, BadCapture, PastLast, Whole, Laid, Shown, named_entries, is_named, none_named, Named, Target, topology_of, Topology, Tree, Address, Answer, refusal, Follows, laid_run, direct_run, IsPolicyRefused, IsPolicy, Judged, lines_behind, script_pace, AlongScript, BehindPolicy, BehindRoom, BehindTarget, BehindTargetText, IsPlacement, HasNoRoom, IsTargetOf, IsTargetRefused, script}
 use Rattle.report_core.specs.declared.fault.FaultKind.TheVariants as kind
-use Rattle.events_core.specs.declared.step.Step.{Step}
 use Rattle.sched_defs.specs.Pace.{Pace}
-use Rattle.sched_defs.specs.declared.ending.Ending.{Ending}
-use Rattle.sched_defs.specs.declared.ending.Ending.TheVariants.{Whole, BadCapture, PastLast}
-use Rattle.sched_embedded.specs.Laid.{Laid}
-use Rattle.sched_capture.specs.Answers.{paced_answer, shown_by}
-use Rattle.tap_core.specs.Lists.{Entry, Shown, is_named, named_entries}
-use Rattle.tap_core.specs.Names.{none_named}
-use Rattle.tap_core.specs.declared.watch.Named.{Named}
+use Rattle.tap_core.specs.Lists.{Entry}
 use Rattle.tap_core.specs.declared.kinds.TapKind.{TapKind}
 use Rattle.tap_core.specs.declared.kinds.TapKind.TheVariants as tap
-use Rattle.replay_app.specs.Answer.{Answer, refusal}
-use Rattle.replay_app.specs.Follows.{Follows}
-use Rattle.replay_app.specs.Policies.{Judged, IsPolicyRefused, IsPolicy}
-use Rattle.replay_app.specs.Stages.{BehindPolicy, BehindTargetText, BehindTarget, BehindRoom}
-use Rattle.replay_app.specs.Targets.{IsTargetRefused, IsTargetOf, HasNoRoom, IsPlacement}
-use Rattle.replay_app.specs.Words.{script}
 use Rattle.replay_app.specs.Laws.{ReportsTheSame, ReplayReportsWhatDirectReports}
-use Rattle.replay_app.specs.Output.{direct_run, laid_run}
-use Rattle.replay_app.specs.Scripts.{AlongScript, script_pace, lines_behind}
 use Rattle.replay_app.proofs.FollowLaws.{each-follows, refused-each, accepted-each}
 use Rattle.replay_app.proofs.Inputs.{policies_are_one, targets_are_one, scripts_are_one}
 

@@ -1,36 +1,14 @@
 -- A generated load has exactly one correct output; the text written for it, and the state left.
-use Rattle.std.proofs.Common.{◌≡◌, ◌∙◌, ℕ, suc, Option, Some, List, [], ◌∷◌, ◌++◌, append_assoc, ap, refl, sym, subst}
-use Rattle.std.specs.Prelude.{Result, Ok, Err, OnOk, is_ok, if◌then◌else◌}
+use Rattle.replay_app.proofs.Prelude.{subst, sym, ℕ, List, ◌≡◌, refl, ap, ◌∙◌, [], ◌∷◌, Option, Some, ◌++◌, suc, append_assoc, All-cons, All-nil, Err, Result, Ok, OnOk, if◌then◌else◌, is_ok, HasEmbedding, Ghosts, appended_nothing, prefix_of_nothing, Appended, AppendedPrefix, Stop, one-policy, a_policy, office_lines, office_statements, AreRising, Resolved, IsResolved, Sense, numbered, LeavesPart, Leaves, FabricRun, Target, topology_of, complete, Tree, Address, Answer, IsTold, IsDone, soak_line, soak_target, IsSoaked, soak_answer, status_code, IsPlacement, Status, Done}
 use Rattle.std.specs.List.{AllByRecursion}
-use Rattle.std.proofs.lemmas.List.Elements.{All-nil, All-cons}
-use Rattle.outside_core.specs.Written.{Appended, AppendedPrefix}
-use Rattle.outside_core.specs.declared.stop.Stop.{Stop}
-use Rattle.outside_core.proofs.WrittenLaws.{appended_nothing, prefix_of_nothing}
-use Rattle.tree_defs.specs.Tree.{Tree, Address}
-use Rattle.tree_defs.specs.Topology.{topology_of, complete}
-use Rattle.target_core.specs.declared.target.Target.{Target}
-use Rattle.embed_defs.specs.Embedding.{HasEmbedding}
-use Rattle.fabric_core.specs.declared.fabric.Fabric.{Ghosts}
-use Rattle.policy_text_defs.specs.Sense.{Sense, Entry, numbered}
+use Rattle.policy_text_defs.specs.Sense.{Entry}
 use Rattle.policy_text_defs.specs.Valid.{IsValid}
 use Rattle.policy_text.proofs.EntryLaws.{numbered_rises}
-use Rattle.policy_rules.specs.Entries.{AreRising}
-use Rattle.policy_rules.specs.Resolved.{Resolved, IsResolved}
 use Rattle.policy_core.specs.PlaceLaws.{AreValid}
-use Rattle.policy_core.specs.Office.{office_statements, office_lines}
 use Rattle.policy_core.proofs.OfficeStatements.{office-valid, office-accepted}
-use Rattle.policy_core.proofs.OnePolicy.{one-policy}
-use Rattle.policy_core.proofs.SomePolicy.{a_policy}
-use Rattle.sched_embedded.specs.Fabrics.{FabricRun, Leaves, LeavesPart}
 use Rattle.sched_capture.specs.Loads.{load_counts, load_through}
 use Rattle.sched_capture.specs.declared.load.LoadCounts.{LoadCounts}
 use Rattle.sched_capture.specs.declared.load.LoadSize.{LoadSize}
-use Rattle.replay_app.specs.Answer.{Answer, IsTold, IsDone}
-use Rattle.replay_app.specs.Soak.{IsSoaked, soak_answer, soak_line, soak_target}
-use Rattle.replay_app.specs.Statuses.{status_code}
-use Rattle.replay_app.specs.Targets.{IsPlacement}
-use Rattle.replay_app.specs.declared.status.Status.{Status}
-use Rattle.replay_app.specs.declared.status.Status.TheVariants.{Done}
 use Rattle.replay_app.proofs.CaptureLaws.{whole_part}
 use Rattle.replay_app.proofs.Inputs.{rising, rooms_are_one}
 use Rattle.replay_app.proofs.OfficeRoom.{office-has-room}

@@ -1,48 +1,24 @@
 -- For all arguments and file contents there is a correct output.
-use Rattle.std.proofs.Common.{◌≡◌, ℕ, List, length, refl, sym, subst, inl, inr}
+use Rattle.replay_app.proofs.Prelude.{subst, sym, ℕ, List, ◌≡◌, refl, inr, length, inl, heights_in_range-holds, HasEmbedding, IsEmbedding, image_map, AreWide, levels, IsInRange, IsScript, Step, a_policy, Policy, AreAccepted, line_of, Resolved, most_text, HasEntries, Fault, not_text, shaping, syntax_fault, Link, plain_rate, Laid, Target, topology_of, Topology, complete, Tree, Address, Answer, laid_run, forward_run, IsPaced, watchers, IsPolicyRefused, IsPolicy, Judged, statements_refused, text_refused, soak_target, IsPlacement, HasNoRoom, IsTargetOf, IsTargetRefused, IsPlanned, planned, plan_answer, names_of, Pacing, replay, via, check, direct, no_form, plan, soak}
 use Rattle.std.proofs.lemmas.Bool.{cases_lt}
-use Rattle.tree_defs.specs.Tree.{Tree, Address}
-use Rattle.tree_defs.specs.Topology.{Topology, topology_of, complete}
-use Rattle.embed_defs.specs.Levels.{levels}
-use Rattle.embed_defs.specs.Target.{IsInRange}
-use Rattle.embed_defs.proofs.LevelLaws.{heights_in_range-holds}
-use Rattle.embed_defs.specs.Embedding.{HasEmbedding, IsEmbedding}
-use Rattle.embed_defs.specs.Images.{image_map}
-use Rattle.embed_defs.specs.Laws.{AreWide}
 use Rattle.embed_defs.proofs.RoomOrNone.{there_or_none}
 use Rattle.target_core.proofs.TextAnswers.{an_answer-holds}
 use Rattle.target_core.proofs.ArityRanges.{in_range-holds}
-use Rattle.target_core.specs.declared.target.Target.{Target}
 use Rattle.embed_plan.proofs.PlanExists.{all_levels, a_plan}
-use Rattle.policy_defs.specs.Policy.{Policy}
-use Rattle.policy_text_defs.specs.Ranges.{most_text}
 use Rattle.policy_text_defs.specs.Sense.{Entry}
-use Rattle.policy_text_defs.specs.Text.{Fault, not_text, syntax_fault, shaping, HasEntries, IsFirstFault}
+use Rattle.policy_text_defs.specs.Text.{IsFirstFault}
 use Rattle.policy_text.specs.declared.fault.TextFault.TheVariants as fault
 use Rattle.policy_core.proofs.FaultlessStatements.{accepted}
-use Rattle.policy_core.proofs.SomePolicy.{a_policy}
 use Rattle.policy_core.proofs.TextAnswers.{an_answer, sound_entries}
-use Rattle.policy_rules.specs.Accepted.{AreAccepted}
-use Rattle.policy_rules.specs.Codes.{code_of, line_of}
-use Rattle.events_core.specs.Script.{most_bytes, IsScript, code_of as script_code, place_of as script_place}
-use Rattle.events_core.specs.declared.step.Step.{Step}
+use Rattle.policy_rules.specs.Codes.{code_of}
+use Rattle.events_core.specs.Script.{most_bytes, code_of as script_code, place_of as script_place}
 use Rattle.events_core.proofs.ScriptAnswers.{an_answer as script_answer}
 use Rattle.report_core.specs.declared.fault.FaultKind.TheVariants as kind
-use Rattle.replay_app.specs.Answer.{Answer}
 use Rattle.replay_app.specs.Laws.{HaveAnAnswer}
-use Rattle.replay_app.specs.Policies.{at_fault, IsPolicyRefused, text_refused, statements_refused, Judged, IsPolicy}
+use Rattle.replay_app.specs.Policies.{at_fault}
 use Rattle.replay_app.specs.Scripts as scripts
-use Rattle.replay_app.specs.Targets.{IsTargetRefused, IsTargetOf, HasNoRoom, IsPlacement, IsPlanned, planned, plan_answer}
-use Rattle.policy_rules.specs.Resolved.{Resolved}
-use Rattle.sched_defs.specs.SendTime.{plain_rate}
-use Rattle.sched_defs.specs.Pace.{Link}
-use Rattle.sched_embedded.specs.Laid.{Laid}
 use Rattle.tap_core.specs.Lists as lists
-use Rattle.replay_app.specs.Output.{laid_run, forward_run, watchers, IsPaced}
 use Rattle.replay_app.specs.Words as words
-use Rattle.replay_app.specs.Words.{Pacing, replay, check, plan, direct, soak, via, no_form}
-use Rattle.replay_app.specs.Soak.{soak_target}
-use Rattle.replay_app.specs.Via.{names_of}
 use Rattle.replay_app.proofs.FollowLaws.{some-follows}
 use Rattle.replay_app.proofs.ViaInputs.{read_topologies, read_maps, map_fits, read_carried}
 use Rattle.replay_app.proofs.ViaLaws.{some-unbroken}

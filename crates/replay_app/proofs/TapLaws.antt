@@ -1,26 +1,9 @@
 -- The state in which taps are left after a run that they watched.
-use Rattle.std.proofs.Common.{◌≡◌, refl, ap, subst, ℕ, Option, None, Some, List}
-use Rattle.std.proofs.lemmas.Result.{on_ok_weaker}
-use Rattle.std.specs.Prelude.{Result}
+use Rattle.replay_app.proofs.Prelude.{subst, ℕ, List, ◌≡◌, refl, ap, Option, Some, None, on_ok_weaker, Result, Ghosts, Stop, Resolved, paced_answer, shown_by, HaveWatched, answer_over, Ending, BadCapture, PastLast, Whole, Shown, named_entries, left_after, Sight, Watches, Named, IsLeft, IsLeftOf, tap_list, IsOutput, OfLines, lines_behind, watching_in, BehindWords, Pacing, forward, link, replay, script, Status}
 use Rattle.pcap_defs.specs.Contents.{FileContents, no_capture, holds}
 use Rattle.pcapng_defs.specs.NgContents.{in_file}
-use Rattle.policy_rules.specs.Resolved.{Resolved}
 use Rattle.sched_defs.specs.Pace.{Pace}
-use Rattle.sched_defs.specs.declared.ending.Ending.{Ending}
-use Rattle.sched_defs.specs.declared.ending.Ending.TheVariants.{Whole, BadCapture, PastLast}
-use Rattle.sched_capture.specs.Answers.{answer_over, paced_answer, shown_by, HaveWatched}
-use Rattle.tap_core.specs.Lists.{Shown, Entry, named_entries, left_after}
-use Rattle.tap_core.specs.Watching.{Sight, Watches}
-use Rattle.tap_core.specs.declared.watch.Named.{Named}
-use Rattle.fabric_core.specs.declared.fabric.Fabric.{Ghosts}
-use Rattle.outside_core.specs.declared.stop.Stop.{Stop}
-use Rattle.replay_app.specs.declared.status.Status.{Status}
-use Rattle.replay_app.specs.Answer.{IsLeft}
-use Rattle.replay_app.specs.Output.{IsOutput}
-use Rattle.replay_app.specs.Behind.{tap_list, IsLeftOf}
-use Rattle.replay_app.specs.Scripts.{OfLines, lines_behind}
-use Rattle.replay_app.specs.Stages.{watching_in, BehindWords}
-use Rattle.replay_app.specs.Words.{Pacing, replay, script, link, forward}
+use Rattle.tap_core.specs.Lists.{Entry}
 
 -- ---- lines
 lines_by : (e : Ending) (shown : List Shown) (before after : Sight) (P : List ℕ → Type 0) → Watches shown before after → OfLines e after P → P (lines_behind e (watching_in before) (Some shown))

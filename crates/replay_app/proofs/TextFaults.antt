@@ -1,15 +1,11 @@
 -- The fault of a text is the cause of its rejection.
-use Rattle.std.proofs.Common.{◌≡◌, ◌≢◌, ◌⊎◌, ℕ, List, Result, Ok, Err, inl, inr, subst}
-use Rattle.policy_defs.specs.Policy.{Policy}
-use Rattle.mapcheck_core.specs.declared.given.Given.{Given}
-use Rattle.mapcheck_core.specs.declared.fault.MapFault.{MapFault}
+use Rattle.replay_app.proofs.Prelude.{subst, ℕ, List, ◌≡◌, inr, inl, ◌≢◌, ◌⊎◌, Err, Result, Ok, IsMapAnswer, IsTreeFault, MapFault, Given, Policy, names_of, IsMapRefused, IsTreeRefused, unread}
 use Rattle.mapcheck_core.specs.declared.fault.MapFault.TheVariants as map
 use Rattle.mapcheck_core.specs.declared.tree_fault.TreeFault.{TreeFault}
 use Rattle.mapcheck_core.specs.declared.tree_fault.TreeFault.TheVariants as tree
 use Rattle.mapcheck_core.specs.MapFaults.{code_of, place_of}
-use Rattle.mapcheck_core.specs.MapTexts.{IsMapAnswer}
-use Rattle.mapcheck_core.specs.TreeTexts.{IsTreeFault, code_of as tree_code, place_of as tree_place}
-use Rattle.replay_app.specs.Via.{IsTreeRefused, at_fault, IsMapRefused, unread, names_of}
+use Rattle.mapcheck_core.specs.TreeTexts.{code_of as tree_code, place_of as tree_place}
+use Rattle.replay_app.specs.Via.{at_fault}
 
 pub tree_refused : (text : List ℕ) (f : TreeFault) → f ≢ tree.NoMemory → (f ≡ tree.NoMemory) ⊎ IsTreeFault text f → IsTreeRefused text (tree_code f) (tree_place f)
 tree_refused text f some (inl none) = absurd (some none)

@@ -1,18 +1,7 @@
 -- Commands that use no fabric leave it unchanged.
-use Rattle.std.proofs.Common.{◌≡◌, Option, None, true, false, ℕ, List, refl, ap}
-use Rattle.std.specs.Prelude.{Result, Ok, Err}
-use Rattle.fabric_core.specs.declared.fabric.Fabric.{Ghosts}
-use Rattle.policy_defs.specs.Policy.{Policy}
+use Rattle.replay_app.proofs.Prelude.{ℕ, List, ◌≡◌, refl, ap, Option, None, false, true, Err, Result, Ok, Ghosts, Stop, Policy, Shown, Target, Answer, IsLeftOf, tap_list, UsesNoFabric, IsOutput, IsPlanned, planned, replay, via, check, direct, no_form, plan, soak, Form, Status}
 use Rattle.report_core.specs.declared.fault.FaultKind.TheVariants as kind
-use Rattle.tap_core.specs.Lists.{Entry, Shown}
-use Rattle.target_core.specs.declared.target.Target.{Target}
-use Rattle.replay_app.specs.Answer.{Answer}
-use Rattle.replay_app.specs.Behind.{UsesNoFabric, IsLeftOf, tap_list}
-use Rattle.replay_app.specs.Output.{IsOutput}
-use Rattle.replay_app.specs.Targets.{IsPlanned, planned}
-use Rattle.replay_app.specs.Words.{Form, replay, check, plan, direct, soak, via, no_form}
-use Rattle.replay_app.specs.declared.status.Status.{Status}
-use Rattle.outside_core.specs.declared.stop.Stop.{Stop}
+use Rattle.tap_core.specs.Lists.{Entry}
 use Rattle.replay_app.proofs.FollowLaws.{each-follows, unchanged}
 
 planned_alone : (policy : Policy) (target : Target) (a : Answer) → IsPlanned policy target a → a.run ≡ None

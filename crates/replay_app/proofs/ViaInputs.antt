@@ -1,33 +1,21 @@
 -- The inputs of a run along a given map: each is rejected with only one code and position, or
 -- accepted as only one value; and each is rejected or accepted.
-use Rattle.std.proofs.Common.{◌≡◌, ℕ, List, [], length, map, Option, None, Some, Result, Ok, Err, inr, refl, sym, ap, ◌∙◌, subst, arith}
-use Rattle.std.proofs.lemmas.List.{length-map, get_or-map}
-use Rattle.tree_defs.specs.Tree.{Tree, Address, nodes}
-use Rattle.tree_defs.specs.Topology.{Topology, topology_of}
+use Rattle.replay_app.proofs.Prelude.{subst, sym, ℕ, List, ◌≡◌, refl, ap, ◌∙◌, [], Option, Some, None, arith, inr, length, map, get_or-map, length-map, Err, Result, Ok, image_map, count, addresses, IsGivenFor, IsVerdict, image_of, Breaks, outside, prefix, root, Fits, IsMapAnswer, IsTreeText, MapFault, Given, Policy, name_at, Target, topology_of, Topology, Tree, Address, nodes, IsPlacement, HasNoRoom, names_of, IsMapRefused, IsTreeRefused, unread, IsTried, IsCarried, NamesNodes}
 use Rattle.tree_defs.proofs.Shapes.{nodes-topology}
-use Rattle.policy_defs.specs.Policy.{Policy, name_at}
-use Rattle.embed_defs.specs.Images.{image_map}
 use Rattle.embed_defs.specs.Preorder.{number_of, tree_in, HoldsImages}
 use Rattle.embed_defs.proofs.PreorderTrees.{trees_in_preorder_hold_the_images}
 use Rattle.embed_defs.proofs.TreesOfImages.{trees_of_images_are_one}
-use Rattle.embed_plan.specs.Preorder.{addresses}
-use Rattle.embed_plan.proofs.PreorderAddresses.{count}
 use Rattle.mapcheck_core.specs.Composition.{IsComposed}
-use Rattle.mapcheck_core.specs.declared.given.Given.{Given}
-use Rattle.mapcheck_core.specs.declared.fault.MapFault.{MapFault}
-use Rattle.mapcheck_core.specs.GivenMaps.{IsGivenFor, image_of, IsVerdict, Breaks, outside, root, leaf, prefix}
+use Rattle.mapcheck_core.specs.GivenMaps.{leaf}
 use Rattle.mapcheck_core.specs.MapFaults.{code_of, place_of}
-use Rattle.mapcheck_core.specs.MapTexts.{IsMapAnswer, Fits}
-use Rattle.mapcheck_core.specs.TreeTexts.{IsTreeText, code_of as tree_code, place_of as tree_place}
+use Rattle.mapcheck_core.specs.TreeTexts.{code_of as tree_code, place_of as tree_place}
 use Rattle.mapcheck_core.proofs.MapAnswers.{IsMapAnswer-one, fits_answer}
 use Rattle.mapcheck_core.proofs.MapLaws.{breaks_none, breaks_one}
 use Rattle.mapcheck_core.proofs.NumberLaws.{number_inside}
 use Rattle.mapcheck_core.proofs.SomeVerdict.{some_verdict}
 use Rattle.mapcheck_core.proofs.TextAnswers.{some_map, some_tree}
 use Rattle.mapcheck_core.proofs.TreeAnswers.{IsTreeText-one, IsTreeFault-one, IsTreeText-IsTreeFault}
-use Rattle.target_core.specs.declared.target.Target.{Target}
-use Rattle.replay_app.specs.Targets.{HasNoRoom, IsPlacement}
-use Rattle.replay_app.specs.Via.{IsTreeRefused, at_fault, IsMapRefused, unread, IsTried, IsCarried, NamesNodes, names_of}
+use Rattle.replay_app.specs.Via.{at_fault}
 use Rattle.replay_app.specs.declared.maps.Tried.{Tried}
 use Rattle.replay_app.proofs.FollowLaws.{AreOne}
 use Rattle.replay_app.proofs.Inputs.{rooms_are_one}

@@ -1,25 +1,8 @@
 -- The text written and the state left along a map that breaks no clause, and for a map that breaks
 -- one.
-use Rattle.std.proofs.Common.{◌≡◌, ℕ, List, Option, None, Some, refl, sym, ◌∙◌, subst, []}
-use Rattle.std.specs.Prelude.{Result, IfOk, OnOk, OnErr}
-use Rattle.std.proofs.lemmas.Result.{on_ok_weaker}
-use Rattle.outside_core.specs.Written.{Appended, AppendedPrefix}
-use Rattle.outside_core.specs.declared.stop.Stop.{Stop}
-use Rattle.fabric_core.specs.declared.fabric.Fabric.{Ghosts}
-use Rattle.report_core.specs.declared.fault.FaultKind.{FaultKind}
-use Rattle.mapcheck_core.specs.declared.fault.MapFault.{MapFault}
+use Rattle.replay_app.proofs.Prelude.{subst, sym, ℕ, List, ◌≡◌, refl, ◌∙◌, [], Option, Some, None, on_ok_weaker, Result, IfOk, OnOk, OnErr, Ghosts, MapFault, Appended, AppendedPrefix, Stop, FaultKind, none_named, Sight, Answer, IsTold, IsLeft, IsDone, HoldsRun, IsLeftOf, Follows, IsOutput, status_code, pair_text, Unbroken, map_refusal, via, Status}
 use Rattle.mapcheck_core.specs.declared.fault.MapFault.TheVariants as fault
 use Rattle.tap_core.specs.Lists.{Entry}
-use Rattle.tap_core.specs.Names.{none_named}
-use Rattle.tap_core.specs.Watching.{Sight}
-use Rattle.replay_app.specs.Answer.{Answer, HoldsRun, IsDone, IsLeft, IsTold}
-use Rattle.replay_app.specs.Behind.{IsLeftOf}
-use Rattle.replay_app.specs.Follows.{Follows}
-use Rattle.replay_app.specs.Output.{IsOutput}
-use Rattle.replay_app.specs.Statuses.{status_code}
-use Rattle.replay_app.specs.Via.{Unbroken, map_refusal, pair_text}
-use Rattle.replay_app.specs.Words.{via}
-use Rattle.replay_app.specs.declared.status.Status.{Status}
 use Rattle.replay_app.proofs.FollowLaws.{AreOne, unchanged, always_ok, always_err, exactly_told, exactly_done, refused_left}
 
 -- ---- outputs

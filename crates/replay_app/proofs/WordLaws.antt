@@ -1,12 +1,6 @@
 -- Arguments that name taps in pairs.
-use Rattle.std.proofs.Common.{◌≡◌, ◌≤◌, true, Some, List, [], ◌∷◌, length, get_or, take, drop, ◌-◌, refl, sym, ap, ◌∙◌, arith}
-use Rattle.std.proofs.lemmas.List.{take_all}
-use Rattle.std.specs.Prelude.{String, string_bytes, codes}
+use Rattle.replay_app.proofs.Prelude.{sym, List, ◌≡◌, refl, ap, ◌∙◌, [], ◌∷◌, Some, arith, length, ◌≤◌, take, get_or, take_all, true, drop, ◌-◌, codes, String, string_bytes, Global, named_with, Named, named_in, texts}
 use Rattle.std.specs.Str.{bytes_eq}
-use Rattle.std.specs.declared.alloc.Global.{Global}
-use Rattle.tap_core.specs.Names.{named_with}
-use Rattle.tap_core.specs.declared.watch.Named.{Named}
-use Rattle.replay_app.specs.Words.{named_in, texts}
 
 -- the first pair, and the pairs after it
 pub pair_first : (named more : Named) (words : List (String Global)) (w name : String Global) → 2 ≤ length words → w ≡ get_or words 0 w → name ≡ get_or words 1 name

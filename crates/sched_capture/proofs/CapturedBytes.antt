@@ -1,10 +1,5 @@
 -- The captured bytes of the packets left.
-use Rattle.std.proofs.Common.{◌≡◌, ◌+◌, ℕ, Option, Some, None, List, ◌∷◌, sym, subst}
-use Rattle.pcap_defs.specs.Packet.{CapturedPacket}
-use Rattle.pcap_defs.specs.Contents.{Contents}
-use Rattle.pcap_core.specs.Captures.{Comes}
-use Rattle.sched_defs.specs.Packets.{Captured}
-use Rattle.sched_capture.specs.Arrivals.{AreCapturedFrom, AreCaptured}
+use Rattle.sched_capture.proofs.Prelude.{◌≡◌, List, Some, ℕ, None, Option, sym, subst, ◌+◌, ◌∷◌, Comes, Contents, CapturedPacket, Captured, AreCaptured, AreCapturedFrom}
 
 -- the next packet has these bytes
 pub bytes_of_next : (n : ℕ) (old new : Option Contents) (p : CapturedPacket) → Comes old new p → (bytes : Captured) → AreCaptured old n bytes → bytes (n + 1) ≡ p.captured

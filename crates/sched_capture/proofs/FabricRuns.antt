@@ -1,30 +1,14 @@
 -- The state of a fabric after a run through it.
-use Rattle.std.proofs.Common.{◌≡◌, ◌+◌, ℕ, Option, None, Some, Result, Ok, Err, List, ap, ◌∙◌, subst, arith}
-use Rattle.std.specs.Prelude.{IfSome, OnOk, OnErr}
+use Rattle.sched_capture.proofs.Prelude.{◌≡◌, List, Some, ℕ, None, Option, arith, subst, ap, ◌∙◌, ◌+◌, Result, Err, Ok, IfSome, OnErr, OnOk, Stop, FileContents, holds, no_capture, in_file, Policy, Resolved, outcomes, Event, after, asked_in, pushed_in, Left, start, Ending, LeavesPart, Leaves, run_of, FabricRun, HoldsAfter, Laid, on_err_given, pace_of, answer_over, paced_answer, paced_through}
 use Rattle.embed_defs.specs.Images.{image_map}
 use Rattle.embed_defs.specs.Lift.{IsLift}
-use Rattle.pcap_defs.specs.Contents.{FileContents, no_capture, holds}
-use Rattle.pcapng_defs.specs.NgContents.{in_file}
-use Rattle.policy_defs.specs.Policy.{Policy}
-use Rattle.sched_defs.specs.SourceState.{start}
-use Rattle.sched_defs.specs.Events.{Event, after, outcomes, pushed_in, asked_in}
-use Rattle.policy_rules.specs.Resolved.{Resolved}
 use Rattle.fabric_core.specs.declared.fabric.Fabric.{Ghosts}
 use Rattle.sched_core.specs.Origins.{Origin}
 use Rattle.sched_core.specs.Spills.{raised, spills_in}
-use Rattle.sched_defs.specs.declared.ending.Ending.{Ending}
-use Rattle.outside_core.specs.declared.stop.Stop.{Stop}
-use Rattle.sched_defs.specs.Packets.{Left}
 use Rattle.sched_run.specs.declared.pace.Pace.{Pace}
-use Rattle.sched_run.specs.Steps.{pace_of}
-use Rattle.sched_run.proofs.StepLaws.{on_err_given}
 use Rattle.sched_capture.specs.Arrivals.{Begins}
 use Rattle.sched_embedded.specs.declared.embedded.Embedded.{Embedded}
 use Rattle.sched_embedded.specs.Embedded.{EmbeddedStands, origin_of}
-use Rattle.sched_embedded.specs.Fabrics.{FabricRun, run_of, HoldsAfter, Leaves, LeavesPart}
-use Rattle.sched_embedded.specs.Laid.{Laid}
-use Rattle.sched_capture.specs.Answers.{answer_over, paced_answer}
-use Rattle.sched_capture.specs.Placements.{paced_through}
 
 module _ {F : Type 0} (fabrics : Ghosts F) (policy : Policy) (laid : Laid) (c : Embedded F) (old mid : F)
     (origin : origin_of c ≡ record { images = laid.images; arities = laid.arities; pushes = fabrics.pushed old; pops = fabrics.popped old })

@@ -1,25 +1,12 @@
 -- A run over the packets left of a capture is the run over its file.
-use Rattle.std.proofs.Common.{◌≡◌, ◌≤◌, refl, arith, ℕ, Option, None, Some, Result, Ok, Err, List}
-use Rattle.std.specs.Prelude.{IfSome, IfOk, IfErr, OnOk}
-use Rattle.std.proofs.lemmas.Result.{on_ok_weaker}
+use Rattle.sched_capture.proofs.Prelude.{◌≡◌, List, Some, ℕ, None, Option, arith, refl, Result, Err, Ok, ◌≤◌, on_ok_weaker, IfSome, OnOk, IfOk, IfErr, sink-then, Stop, FileContents, holds, no_capture, in_file, Resolved, Left, Ending, CanEndSo, IsNoPastLast, Sight, answer_of, answer_over, IsRefusal, paced_answer, RunAnswer, HaveWatched, shown_by, IsReported, KeepsOutside}
 use Rattle.outside_core.specs.Kept.{KeepsSink, HasCause}
-use Rattle.outside_core.proofs.KeptLaws.{sink-then}
-use Rattle.outside_core.specs.declared.stop.Stop.{Stop}
 use Rattle.outside_core.specs.declared.stop.Stop.TheVariants.{Source, Sink, Memory}
 use Rattle.outside_core.proofs.FaultLaws.{rose_after}
-use Rattle.pcap_defs.specs.Contents.{FileContents, no_capture, holds}
-use Rattle.pcapng_defs.specs.NgContents.{in_file}
-use Rattle.policy_rules.specs.Resolved.{Resolved}
 use Rattle.sched_defs.specs.Pace.{Pace}
-use Rattle.sched_defs.specs.declared.ending.Ending.{Ending}
-use Rattle.sched_defs.specs.Packets.{Left}
-use Rattle.sched_run.specs.Steps.{IsNoPastLast, CanEndSo}
 use Rattle.sched_run.specs.declared.pace.Pace as code
 use Rattle.sched_run.specs.declared.pace.Pace.TheVariants as code_pace
 use Rattle.sched_capture.specs.Arrivals.{Begins}
-use Rattle.tap_core.specs.Watching.{Sight}
-use Rattle.sched_capture.specs.Outside.{IsReported, KeepsOutside}
-use Rattle.sched_capture.specs.Answers.{RunAnswer, IsRefusal, answer_of, answer_over, paced_answer, shown_by, HaveWatched}
 
 module _ (policy : Resolved) (pace : Pace) where
   -- a property of the answer over the packets left is one of the answer for the file

@@ -1,25 +1,9 @@
 -- The departures forwarded of a file are read back.
-use Rattle.std.proofs.Common.{◌≡◌, ◌<◌, ◌≤◌, ◌+◌, ◌==◌, ◌^◌, ℕ, Bool, true, false, if◌then◌else◌, Option, None, Some, List, [], ◌∷◌, map, length, refl, arith}
-use Rattle.std.specs.Prelude.{unwrap_or}
-use Rattle.std.specs.List.{AllByRecursion, list_all}
-use Rattle.std.proofs.lemmas.List.{length-map}
+use Rattle.sched_capture.proofs.Prelude.{◌≡◌, List, Some, ℕ, None, Option, arith, [], refl, ◌+◌, ◌∷◌, Bool, false, length, true, ◌≤◌, ◌<◌, if◌then◌else◌, map, ◌^◌, ◌==◌, length-map, AllByRecursion, list_all, unwrap_or, other_link, behind_packet, first_link, of_link, of_one_link, Fields, FileContents, holds, no_capture, Contents, FaultAt, CapturedPacket, most_captured, in_file, Resolved, IsSendable, AreNumberedFrom, captured_from, LinkRate, forward_over, class_given, packets_from, one_link_in, link_in, ahead_in}
 use Rattle.std.proofs.lemmas.List.Quantifiers.{position-Some}
-use Rattle.pcap_defs.specs.Record.{most_captured}
-use Rattle.pcap_defs.specs.Packet.{CapturedPacket}
-use Rattle.pcap_defs.specs.Contents.{FaultAt, Contents, FileContents, no_capture, holds}
-use Rattle.pcapng_defs.specs.NgContents.{in_file}
-use Rattle.packet_defs.specs.declared.fields.Fields.{Fields}
 use Rattle.packet_defs.specs.Condition.{Condition, meets, class_of}
 use Rattle.packet_core.specs.Conditions.{condition_of, conditions_of}
-use Rattle.policy_rules.specs.Resolved.{Resolved}
-use Rattle.sched_defs.specs.Numbered.{AreNumberedFrom, IsSendable}
-use Rattle.sched_defs.specs.Packets.{captured_from}
-use Rattle.sched_defs.specs.declared.rate.LinkRate.{LinkRate}
-use Rattle.forward_defs.specs.SingleLinkType.{other_link, first_link, behind_packet, of_link, of_one_link}
 use Rattle.forward_defs.proofs.ReadBack.{forwarded_runs-read_back}
-use Rattle.sched_capture.specs.Packets.{class_given, packets_from}
-use Rattle.sched_capture.specs.SingleLinkType.{ahead_in, one_link_in, link_in}
-use Rattle.sched_capture.specs.Forwards.{forward_over}
 use Rattle.sched_capture.specs.Laws.{AreReadBack, ForwardsAreReadBack}
 use Rattle.sched_capture.proofs.RunnablePolicies.{IsRunnable, runnable}
 use Rattle.sched_capture.proofs.PacketRanges.{IsInRange, AreInRange, IsFileInRange, file_in_range}

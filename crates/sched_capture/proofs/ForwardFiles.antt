@@ -1,27 +1,8 @@
 -- The answer of a run over packets of one link type, for the file of these packets.
-use Rattle.std.proofs.Common.{◌≡◌, ℕ, Option, None, Some, Result, Ok, Err, List, sym, ap, ◌∙◌, subst}
-use Rattle.std.specs.Prelude.{IfSome, OnOk, OnErr}
-use Rattle.std.proofs.lemmas.Option.{IfSome_then}
-use Rattle.std.proofs.lemmas.Result.{on_ok_weaker, on_err_weaker}
-use Rattle.outside_core.specs.Written.{Appended, AppendedPrefix}
-use Rattle.outside_core.specs.declared.stop.Stop.{Stop}
-use Rattle.outside_core.proofs.WrittenLaws.{appended_in_turn, appended_nothing, prefix_in_turn, prefix_of_longer, prefix_of_nothing}
-use Rattle.policy_defs.specs.Policy.{Policy}
+use Rattle.sched_capture.proofs.Prelude.{◌≡◌, List, Some, ℕ, None, Option, sym, subst, ap, ◌∙◌, Result, Err, Ok, IfSome_then, on_err_weaker, on_ok_weaker, IfSome, OnErr, OnOk, prefix_of_nothing, appended_in_turn, appended_nothing, prefix_in_turn, prefix_of_longer, Appended, AppendedPrefix, Stop, FileContents, holds, no_capture, FaultAt, in_file, Policy, Resolved, outcomes, Captured, Left, StaysKnown, captured_from, start, Ending, LinkRate, on_err_given, IsRefusal, AreCapturedIn, left_in, forward_events, forward_over, forward_answer, sent_bytes, ForwardAnswer, forward_of, forward_refusal, refusal_ending, one_link_in, link_in}
 use Rattle.pcap_core.specs.Bytes.{header_bytes}
-use Rattle.sched_defs.specs.SourceState.{start}
-use Rattle.sched_defs.specs.Events.{outcomes}
-use Rattle.sched_run.proofs.StepLaws.{on_err_given}
-use Rattle.pcap_defs.specs.Contents.{FaultAt, FileContents, no_capture, holds}
-use Rattle.pcapng_defs.specs.NgContents.{in_file}
-use Rattle.policy_rules.specs.Resolved.{Resolved}
-use Rattle.sched_defs.specs.declared.ending.Ending.{Ending}
-use Rattle.sched_defs.specs.Packets.{Left, Captured, captured_from, StaysKnown}
-use Rattle.sched_defs.specs.declared.rate.LinkRate.{LinkRate}
-use Rattle.sched_capture.specs.Arrivals.{Begins, AreCapturedIn, left_in}
+use Rattle.sched_capture.specs.Arrivals.{Begins}
 use Rattle.sched_capture.specs.CapturedBytes.{captured_from-are}
-use Rattle.sched_capture.specs.SingleLinkType.{one_link_in, link_in}
-use Rattle.sched_capture.specs.Answers.{IsRefusal}
-use Rattle.sched_capture.specs.Forwards.{ForwardAnswer, forward_of, forward_over, forward_answer, forward_refusal, forward_events, sent_bytes, refusal_ending}
 use Rattle.sched_capture.specs.declared.departures.ForwardEnding.{ForwardEnding}
 
 -- ---- the header, and then the records

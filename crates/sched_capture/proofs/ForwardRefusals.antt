@@ -1,20 +1,5 @@
 -- Captures that are rejected before their departures are written.
-use Rattle.std.proofs.Common.{ℕ, Option, None, Some, Result, Ok, Err, List}
-use Rattle.std.specs.Prelude.{IfSome, IfErr, OnErr}
-use Rattle.std.proofs.lemmas.Option.{IfSome_then}
-use Rattle.std.proofs.lemmas.Result.{on_err_weaker}
-use Rattle.outside_core.specs.Written.{AppendedPrefix}
-use Rattle.outside_core.specs.declared.stop.Stop.{Stop}
-use Rattle.outside_core.proofs.WrittenLaws.{prefix_of_nothing}
-use Rattle.pcap_defs.specs.Contents.{Contents, FileContents, no_capture, holds}
-use Rattle.pcapng_defs.specs.NgContents.{in_file}
-use Rattle.pcap_core.specs.Captures.{Opens}
-use Rattle.policy_rules.specs.Resolved.{Resolved}
-use Rattle.sched_defs.specs.declared.ending.Ending.{Ending}
-use Rattle.sched_defs.specs.declared.rate.LinkRate.{LinkRate}
-use Rattle.sched_capture.specs.SingleLinkType.{EachFileOf, one_link_in, link_in}
-use Rattle.sched_capture.specs.Answers.{IsRefusalPart}
-use Rattle.sched_capture.specs.Forwards.{forward_over, forward_answer}
+use Rattle.sched_capture.proofs.Prelude.{List, Some, ℕ, None, Option, Result, Err, Ok, IfSome_then, on_err_weaker, IfSome, OnErr, IfErr, prefix_of_nothing, AppendedPrefix, Stop, Opens, FileContents, holds, no_capture, Contents, in_file, Resolved, Ending, LinkRate, IsRefusalPart, forward_over, forward_answer, one_link_in, link_in, EachFileOf}
 use Rattle.sched_capture.proofs.Refusals.{nothing_part}
 
 -- a property of each file with these contents left is one of the file that was begun

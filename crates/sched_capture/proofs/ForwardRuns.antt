@@ -1,22 +1,7 @@
 -- A link's run from the start of a policy, whose departures are recorded.
-use Rattle.std.proofs.Common.{◌≡◌, ◌+◌, ℕ, Bool, true, false, not, is_some, Option, None, Some, List, [], ◌∷◌, ◌++◌, map, refl, sym, ap, ◌∙◌, subst, append_assoc}
-use Rattle.std.specs.Prelude.{IfSome}
-use Rattle.std.proofs.lemmas.List.{map-append}
-use Rattle.outside_core.specs.Written.{Appended}
+use Rattle.sched_capture.proofs.Prelude.{◌≡◌, List, Some, ℕ, None, Option, sym, subst, ap, ◌∙◌, [], refl, ◌+◌, ◌∷◌, Bool, false, true, ◌++◌, map, not, append_assoc, is_some, map-append, IfSome, Appended, IsAccepted, Policy, IsCut-longer, text_of, sound_start, outcomes, Event, Departed, after, Arrived, CanMake, Dropped, Empty, Outcome, IsHeldBelow, Captured, Left, AreThere, Course, start, Ending, LinkRate, start_can_begin, HasMade, HasMadeSome, Recordings, AreJoined, TellsRecords, CutsRecords, HoldsNothing, is_late_now, keeping_of, forward_events, sent_bytes, ending_unless, forward_course, Forwarding}
 use Rattle.outside_core.specs.Text.{IsCut}
-use Rattle.report_core.specs.Gathered.{text_of}
-use Rattle.report_core.proofs.TextLaws.{IsCut-longer}
-use Rattle.policy_defs.specs.Policy.{Policy}
-use Rattle.policy_defs.specs.Accepted.{IsAccepted}
-use Rattle.sched_defs.specs.SourceState.{start}
 use Rattle.sched_defs.specs.Sound.{IsSound}
-use Rattle.sched_defs.specs.Events.{Event, Outcome, Arrived, Departed, Dropped, Empty, after, outcomes, CanMake}
-use Rattle.sched_defs.specs.Script.{Course}
-use Rattle.sched_defs.specs.Numbered.{IsHeldBelow}
-use Rattle.sched_defs.specs.Packets.{Left, Captured, AreThere}
-use Rattle.sched_defs.specs.declared.ending.Ending.{Ending}
-use Rattle.sched_defs.specs.declared.rate.LinkRate.{LinkRate}
-use Rattle.sched_defs.proofs.Soundness.{sound_start}
 use Rattle.sched_defs.proofs.Runs.{outcomes-append}
 use Rattle.pcap_core.specs.Bytes.{records_bytes}
 use Rattle.pcap_core.proofs.BytesLaws.{records_follow}
@@ -26,17 +11,11 @@ use Rattle.forward_defs.specs.Keeping.{keeps_nothing, kept_behind, records_of}
 use Rattle.forward_defs.proofs.KeptBytes.{records_told}
 use Rattle.forward_defs.proofs.LateLinks.{ends_late, ends_whole, ends_early}
 use Rattle.sched_core.specs.declared.scheduler.Scheduler.{Ghosts}
-use Rattle.sched_run.specs.Recording.{Recordings, AreJoined}
-use Rattle.sched_run.specs.Played.{HasMade, HasMadeSome}
 use Rattle.sched_run.specs.Stages.{Stage, event_of, packets_in, AreNext, FromEach, Makes, MakesLast, StopsLast}
 use Rattle.sched_run.specs.Turns.{AreFirst}
 use Rattle.sched_run.specs.Courses.{link_agenda, IsCourse, CoursesUnless, CoursesAmid}
-use Rattle.sched_run.proofs.StartLaws.{start_can_begin}
 use Rattle.sched_run.proofs.MadeEvents.{can_make, makes_to_last, stops_at_last}
-use Rattle.sched_capture.specs.declared.forwarding.Forwarding.{Forwarding}
-use Rattle.sched_capture.specs.Forwarding.{keeping_of, is_late_now, HoldsNothing, TellsRecords, CutsRecords}
 use Rattle.sched_capture.specs.JoinedRecords.{same_behind, same_records}
-use Rattle.sched_capture.specs.Forwards.{ending_unless, sent_bytes, forward_course, forward_events}
 
 -- such a recorder writes records of departures, for all captured bytes with H
 pub record TellsHeard (R : Recordings Forwarding) (H : Captured → Type 0) : Type 0 where

@@ -1,35 +1,16 @@
 -- A run from the start of a policy.
-use Rattle.std.proofs.Common.{◌≡◌, refl, ℕ, Option, None, Some, Result, List, []}
-use Rattle.std.specs.Prelude.{IfSome, IfOk, OnOk, OnErr}
-use Rattle.std.proofs.lemmas.Option.{IfSome_then}
-use Rattle.std.proofs.lemmas.Result.{IfOk-weaker, on_ok_weaker, on_err_weaker}
-use Rattle.outside_core.specs.Written.{Appended, AppendedPrefix}
+use Rattle.sched_capture.proofs.Prelude.{◌≡◌, List, Some, ℕ, None, Option, [], refl, Result, IfSome_then, on_err_weaker, on_ok_weaker, IfOk-weaker, IfSome, OnErr, OnOk, IfOk, Appended, AppendedPrefix, Stop, IsAccepted, Policy, cut_part, whole_text, sound_start, outcomes, Left, Course, start, SourceState, Ending, start_can_begin, HasMade, HasMadeSome, pace_of, Sight, Shows, Watches, answer_of, IsReported}
 use Rattle.outside_core.specs.Kept.{Begins}
 use Rattle.outside_core.specs.Text.{appended}
-use Rattle.policy_defs.specs.Policy.{Policy}
-use Rattle.policy_defs.specs.Accepted.{IsAccepted}
-use Rattle.sched_defs.specs.SourceState.{SourceState, start}
-use Rattle.sched_defs.specs.Script.{Course}
-use Rattle.sched_defs.proofs.Soundness.{sound_start}
 use Rattle.sched_core.specs.declared.scheduler.Scheduler.{Ghosts}
 use Rattle.sched_core.specs.Standing.{StandForOne}
-use Rattle.sched_defs.specs.declared.ending.Ending.{Ending}
-use Rattle.outside_core.specs.declared.stop.Stop.{Stop}
-use Rattle.sched_defs.specs.Packets.{Left}
 use Rattle.sched_run.specs.declared.pace.Pace.{Pace}
-use Rattle.sched_run.specs.Steps.{pace_of}
 use Rattle.sched_run.specs.Stages.{CanBegin}
 use Rattle.sched_run.specs.Courses.{course_of, OnCourse, Runs, Breaks}
-use Rattle.sched_run.proofs.StartLaws.{start_can_begin}
-use Rattle.sched_run.specs.Played.{HasMade, HasMadeSome}
 use Rattle.sched_run.proofs.JoinedEvents.{made_some_none}
 use Rattle.sched_run.specs.Shown.{shown_in}
-use Rattle.sched_defs.specs.Events.{outcomes}
-use Rattle.tap_core.specs.Watching.{Sight, Begins as TapsBegin, Shows, Watches}
+use Rattle.tap_core.specs.Watching.{Begins as TapsBegin}
 use Rattle.tap_core.proofs.WatchLaws.{begins_shows}
-use Rattle.sched_capture.specs.Answers.{answer_of}
-use Rattle.report_core.proofs.WholeTexts.{cut_part, whole_text}
-use Rattle.sched_capture.specs.Outside.{IsReported}
 
 pub stand_at_start : {C U : Type 0} (stands : C → U → SourceState → Type 0) (own policy : Policy) (c : C) (u : U) (given : ℕ) → own ≡ policy → IsAccepted policy → stands c u (start policy)
     → StandForOne stands own c u (CanBegin given)

@@ -1,13 +1,5 @@
 -- The front of a file in a window, and the contents of the file.
-use Rattle.std.proofs.Common.{◌≡◌, ◌<◌, ℕ, Option, Some, None, List, [], ◌++◌, length, sym, ap, ◌∙◌, subst, arith, length-append}
-use Rattle.std.specs.Prelude.{IfSome}
-use Rattle.std.proofs.lemmas.List.{nil_from_length}
-use Rattle.pcap_core.specs.Rest.{rest_of, TakesFront, IsShort}
-use Rattle.pcap_defs.specs.Fault.{pcap_ng}
-use Rattle.pcap_defs.specs.Header.{header_len, IsHeaderFault}
-use Rattle.pcap_defs.specs.Reading.{capture_of}
-use Rattle.pcap_defs.specs.Contents.{FileContents, in_capture}
-use Rattle.pcapng_defs.specs.NgContents.{in_file, in_ng_capture}
+use Rattle.sched_capture.proofs.Prelude.{◌≡◌, List, Some, ℕ, None, Option, arith, sym, subst, ap, ◌∙◌, [], length, ◌++◌, ◌<◌, length-append, nil_from_length, IfSome, rest_of, IsShort, TakesFront, FileContents, in_capture, pcap_ng, IsHeaderFault, header_len, capture_of, in_file, in_ng_capture}
 use Rattle.pcapng_defs.specs.Laws.{IsHeaderFront}
 use Rattle.pcapng_defs.proofs.Formats.{fronts_tell_formats}
 

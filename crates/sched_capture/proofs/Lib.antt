@@ -1,3 +1,4 @@
+pub mod Prelude
 pub mod FromStart
 pub mod LoadRuns
 pub mod Refusals

@@ -1,17 +1,8 @@
 -- A generated load from the start of a policy.
-use Rattle.std.proofs.Common.{◌≡◌, ℕ, Option, List, subst}
-use Rattle.policy_defs.specs.Policy.{Policy}
-use Rattle.policy_defs.specs.Accepted.{IsAccepted}
-use Rattle.sched_defs.specs.SourceState.{start}
-use Rattle.sched_defs.specs.Numbered.{IsHeldBelow}
-use Rattle.sched_defs.proofs.Soundness.{sound_start}
+use Rattle.sched_capture.proofs.Prelude.{◌≡◌, List, ℕ, Option, subst, IsAccepted, Policy, sound_start, IsHeldBelow, start, start_can_begin, load_run, MakesLoad, StopsIn, Recordings}
 use Rattle.sched_core.specs.declared.scheduler.Scheduler.{Ghosts}
 use Rattle.sched_core.specs.Standing.{ForEachState}
-use Rattle.sched_run.specs.Recording.{Recordings}
 use Rattle.sched_run.specs.declared.tally.Totals.{Totals}
-use Rattle.sched_run.specs.Load.{load_run, MakesLoad}
-use Rattle.sched_run.specs.Played.{StopsIn}
-use Rattle.sched_run.proofs.StartLaws.{start_can_begin}
 
 module _ {C U W : Type 0} {S : Ghosts C U} {R : Recordings W} {own : Policy} {c c' : C} {u u' : U} {w : W} {a written : Option (List ℕ)} (policy : Policy) (seed count : ℕ) where
   -- a load that was made from each state without queued packets was made from the start

@@ -1,19 +1,12 @@
 -- The packets of a file of bytes have their numbers in range.
-use Rattle.std.proofs.Common.{◌≡◌, ◌<◌, ◌≤◌, ◌+◌, ◌*◌, ◌%◌, ◌^◌, ◌&&◌, ℕ, zero, suc, Bool, true, false, eqb, leb, Option, None, Some, Result, Ok, Err, List, [], ◌∷◌, ◌++◌, map, length, drop, slice_get, refl, sym, subst, arith}
-use Rattle.std.specs.Prelude.{IfSome, ⊤}
-use Rattle.std.specs.List.{AllByRecursion}
-use Rattle.std.proofs.lemmas.List.{get_or-drop, length-map}
+use Rattle.sched_capture.proofs.Prelude.{◌≡◌, List, Some, ℕ, None, Option, arith, sym, subst, [], refl, ◌+◌, Result, ◌∷◌, Err, Ok, Bool, false, length, true, ◌≤◌, ◌++◌, ◌<◌, map, ◌^◌, suc, ◌%◌, drop, eqb, leb, slice_get, zero, ◌&&◌, ◌*◌, length-map, get_or-drop, AllByRecursion, IfSome, ⊤, FileContents, holds, no_capture, pcap_ng, bad_magic, data_cut, header_cut, record_cut, record_long, too_many, version, CapturedPacket, packet_with, capture_of, Capture, packets, refused, most_captured, AreSpellings, IsSpelling, Record, moment, most_records, in_file, in_ng_capture, behind_front, in_either}
 use Rattle.std.proofs.lemmas.Bool.{cond_both}
 use Rattle.byteorder.specs.Numbers.{big_from-lt, little_from-lt}
 use Rattle.rank_defs.specs.Programs.{max_rank}
 use Rattle.pcap_defs.specs.declared.head.Head.{Head}
-use Rattle.pcap_defs.specs.Fault.{Fault, header_cut, bad_magic, pcap_ng, version, record_cut, data_cut, record_long, too_many}
+use Rattle.pcap_defs.specs.Fault.{Fault}
 use Rattle.pcap_defs.specs.Number.{long_at, short_at}
-use Rattle.pcap_defs.specs.Record.{Record, IsSpelling, AreSpellings, most_captured, most_records, moment}
 use Rattle.pcap_defs.specs.Capture.{IsCapture}
-use Rattle.pcap_defs.specs.Reading.{Capture, refused, packets, capture_of}
-use Rattle.pcap_defs.specs.Packet.{CapturedPacket, packet_with}
-use Rattle.pcap_defs.specs.Contents.{FileContents, no_capture, holds}
 use Rattle.pcap_defs.proofs.ReadingLaws.{reads_captures, moments_are_small}
 use Rattle.pcapng_defs.specs.declared.interface.Interface.{Interface}
 use Rattle.pcapng_defs.specs.Fault.{BlockFault}
@@ -21,7 +14,6 @@ use Rattle.pcapng_defs.specs.Interface.{interface_at}
 use Rattle.pcapng_defs.specs.Moment.{moment_in}
 use Rattle.pcapng_defs.specs.Block.{Carried, at_start, BlockKind, section, interface, enhanced, simple, other, ng_major, most_interfaces, packet_at, enhanced_at, simple_at, simple_len, block_gives}
 use Rattle.pcapng_defs.specs.NgCapture.{BlockFront, nothing, broken, found, front_of, at_front, packets_in, read_from, ng_capture_of}
-use Rattle.pcapng_defs.specs.NgContents.{behind_front, in_ng_capture, in_either, in_file}
 use Rattle.pcapng_defs.specs.Laws.{IsBounded}
 use Rattle.pcapng_defs.proofs.WholeBlocks.{reads_blocks}
 use Rattle.pcapng_defs.proofs.Readings.{packets_are_bounded, packets_are_few}

@@ -1,18 +1,7 @@
 -- The contents left of a capture, as packets to read.
-use Rattle.std.proofs.Common.{◌≡◌, ◌+◌, ℕ, Bool, true, false, true≢false, if◌then◌else◌, Option, Some, None, Ok, Err, List, [], ◌∷◌, refl, sym, ap, ◌∙◌, subst}
-use Rattle.std.specs.Prelude.{Result, IfOk, IfSome, option_map}
-use Rattle.pcap_defs.specs.Packet.{CapturedPacket}
-use Rattle.pcap_defs.specs.Contents.{Contents, FileContents, no_capture, holds}
-use Rattle.pcap_core.specs.Captures.{fault_told, Opens, Comes, IsOneLess, IsAt, StopsAt, nothing_left}
-use Rattle.pcap_core.specs.Rest.{rest_of}
-use Rattle.outside_core.specs.declared.read_error.ReadError.{ReadError}
+use Rattle.sched_capture.proofs.Prelude.{◌≡◌, List, Some, ℕ, None, Option, sym, subst, ap, ◌∙◌, [], refl, ◌+◌, Result, ◌∷◌, Err, Ok, Bool, false, true, if◌then◌else◌, true≢false, IfSome, option_map, IfOk, ReadError, Packet, Opens, Comes, IsAt, StopsAt, nothing_left, IsOneLess, fault_told, rest_of, FileContents, holds, no_capture, Contents, CapturedPacket, Resolved, Captured, StaysKnown, Came, IsKnownAs, IsOver, IsReadError, OneCame, Refuses, AreCaptured, AreCapturedIn, left_in, IsNext, packet_told, packet_of, packets_from}
 use Rattle.outside_core.specs.declared.read_error.ReadError.TheVariants.{Fault, Source, Memory}
-use Rattle.packet_defs.specs.declared.packet.Packet.{Packet}
-use Rattle.policy_rules.specs.Resolved.{Resolved}
-use Rattle.sched_defs.specs.Packets.{Captured, Came, OneCame, IsReadError, IsKnownAs, IsOver, StaysKnown}
-use Rattle.sched_capture.specs.Packets.{packet_of, packets_from}
-use Rattle.sched_capture.specs.NextPacket.{packet_told, IsNext}
-use Rattle.sched_capture.specs.Arrivals.{left_in, Begins, Refuses, AreCaptured, AreCapturedIn}
+use Rattle.sched_capture.specs.Arrivals.{Begins}
 use Rattle.sched_capture.proofs.CapturedBytes.{bytes_of_next, bytes_of_others}
 
 -- ---- after the beginning

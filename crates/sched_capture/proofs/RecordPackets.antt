@@ -1,19 +1,10 @@
 -- A captured packet is read with its class and its flow.
-use Rattle.std.proofs.Common.{◌≡◌, ◌≤◌, ℕ, ◌+◌, Option, List, length, ap, sym, ◌∙◌, subst}
-use Rattle.std.specs.Prelude.{unwrap_or}
-use Rattle.pcap_defs.specs.Record.{most_captured}
-use Rattle.pcap_defs.specs.Contents.{Contents}
+use Rattle.sched_capture.proofs.Prelude.{◌≡◌, List, ℕ, Option, sym, subst, ap, ◌∙◌, ◌+◌, length, ◌≤◌, unwrap_or, Fields, Packet, Comes, Contents, most_captured, Resolved, IsSendable, IsNext, packet_told, packet_of, class_given}
 use Rattle.rank_defs.specs.declared.environment.FlowKey.{FlowKey}
-use Rattle.pcap_core.specs.Captures.{packet_of as packet_of_frame, Comes}
+use Rattle.pcap_core.specs.Captures.{packet_of as packet_of_frame}
 use Rattle.pcap_core.specs.declared.frame.LinkedFrame.{LinkedFrame}
-use Rattle.packet_defs.specs.declared.fields.Fields.{Fields}
-use Rattle.packet_defs.specs.declared.packet.Packet.{Packet}
 use Rattle.packet_defs.specs.Headers.{fields_of}
 use Rattle.packet_core.specs.Classes.{IsSorted}
-use Rattle.policy_rules.specs.Resolved.{Resolved}
-use Rattle.sched_defs.specs.Numbered.{IsSendable}
-use Rattle.sched_capture.specs.Packets.{class_given, packet_of}
-use Rattle.sched_capture.specs.NextPacket.{packet_told, IsNext}
 
 pub packet-is : (policy : Resolved) (f : LinkedFrame) (bytes : List ℕ) (old p : Packet) → old.number ≡ f.frame.number → old.len ≡ f.frame.len → old.moment ≡ f.frame.moment
     → IsSorted policy (fields_of f.link bytes) old p → p ≡ packet_of policy f.frame.number (packet_of_frame f bytes)

@@ -1,18 +1,8 @@
 -- The answer for a file that is no capture.
-use Rattle.std.proofs.Common.{◌≡◌, ℕ, Option, None, Some, Result, Ok, Err, List, [], sym, subst}
-use Rattle.std.specs.Prelude.{IfSome, IfOk, OnOk, OnErr, codes}
-use Rattle.outside_core.specs.Written.{Appended, AppendedPrefix}
-use Rattle.outside_core.proofs.WrittenLaws.{appended_nothing, prefix_of_nothing}
-use Rattle.pcap_defs.specs.Contents.{FaultAt, FileContents, no_capture, holds}
-use Rattle.pcapng_defs.specs.NgContents.{in_file}
+use Rattle.sched_capture.proofs.Prelude.{◌≡◌, List, Some, ℕ, None, Option, sym, subst, [], Result, Err, Ok, IfSome, OnErr, OnOk, IfOk, codes, prefix_of_nothing, appended_nothing, Appended, AppendedPrefix, Stop, FileContents, holds, no_capture, FaultAt, in_file, Resolved, Ending, answer_over, IsRefusal, IsRefusalPart, paced_answer, RunAnswer, refusal_answer, IsReported}
 use Rattle.outside_core.specs.Report.{fault_line}
 use Rattle.sched_defs.specs.Pace.{Pace}
-use Rattle.sched_defs.specs.declared.ending.Ending.{Ending}
 use Rattle.sched_defs.specs.declared.ending.Ending.TheVariants.{BadCapture}
-use Rattle.outside_core.specs.declared.stop.Stop.{Stop}
-use Rattle.policy_rules.specs.Resolved.{Resolved}
-use Rattle.sched_capture.specs.Answers.{RunAnswer, IsRefusal, IsRefusalPart, refusal_answer, answer_over, paced_answer}
-use Rattle.sched_capture.specs.Outside.{IsReported}
 
 -- after the fault line is written, the answer is that of a rejected file
 pub refusal_told : (c p : ℕ) (before written : Option (List ℕ)) (r : Result Ending Stop) (told : Option (List ℕ)) → IfOk r (λ e. e ≡ BadCapture c p)

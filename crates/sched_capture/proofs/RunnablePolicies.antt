@@ -1,7 +1,5 @@
 -- The policy of an accepted text can be run.
-use Rattle.std.proofs.Common.{◌≡◌, ◌<◌, ◌≤◌, ◌^◌, ℕ, suc, List, [], ◌∷◌, ◌++◌, map, length, refl, sym, ap, ◌∙◌, arith}
-use Rattle.std.specs.List.{AllByRecursion}
-use Rattle.std.proofs.lemmas.List.{length-map}
+use Rattle.sched_capture.proofs.Prelude.{◌≡◌, List, ℕ, arith, sym, ap, ◌∙◌, [], refl, ◌∷◌, length, ◌≤◌, ◌++◌, ◌<◌, map, ◌^◌, suc, length-map, AllByRecursion, IsAccepted, Class, Node, Resolved, AreClassesOf, Declared, IsResolved, classes_in}
 use Rattle.tree_defs.specs.Tree.{Tree, nodes, depth, most_levels}
 use Rattle.tree_defs.specs.Topology.{topology_of}
 use Rattle.tree_defs.proofs.Shapes.{depth-topology}
@@ -13,14 +11,11 @@ use Rattle.rank_defs.specs.Shapes.{IsShaped}
 use Rattle.rank_defs.specs.Builtins.{builtins}
 use Rattle.policy_text_defs.specs.Sense.{Entry}
 use Rattle.policy_text_defs.specs.Text.{HasEntries}
-use Rattle.policy_defs.specs.Policy.{Node, Class}
-use Rattle.policy_defs.specs.Accepted.{IsAccepted}
 use Rattle.policy_rules.specs.Names.{declared, node_name}
 use Rattle.policy_rules.specs.Clauses.{root}
 use Rattle.policy_rules.specs.Programs.{place, programs}
 use Rattle.policy_rules.specs.Graph.{graph_of}
 use Rattle.policy_rules.specs.Accepted.{AreAccepted}
-use Rattle.policy_rules.specs.Resolved.{Resolved, Declared, IsResolved, AreClassesOf, classes_in}
 use Rattle.policy_rules.proofs.KnownPrograms.{shaped_known}
 use Rattle.policy_core.proofs.FamilyFaults.{is-forest, is-shallow}
 use Rattle.policy_core.specs.Labels.{node_numbered, nodes_at}

@@ -1,20 +1,10 @@
 -- The captured bytes that a departure leaves kept, and its record.
-use Rattle.std.proofs.Common.{◌≡◌, ◌<◌, ◌≤◌, ◌/◌, ◌%◌, ◌^◌, ◌||◌, ℕ, Bool, true, false, not, nat_lt, if◌then◌else◌, Option, None, Some, List, [], ◌∷◌, ◌++◌, length, refl, sym, ap, ◌∙◌, subst, append-nil}
-use Rattle.std.specs.Prelude.{IfSome, option_map}
+use Rattle.sched_capture.proofs.Prelude.{◌≡◌, List, Some, ℕ, None, Option, sym, subst, ap, ◌∙◌, [], refl, ◌∷◌, Bool, false, length, true, ◌≤◌, ◌++◌, ◌<◌, if◌then◌else◌, ◌^◌, not, ◌%◌, append-nil, nat_lt, ◌/◌, ◌||◌, IfSome, option_map, Appended, Packet, most_captured, Policy, text_of, Departed, Captured, TellsRecords, bytes_kept, Forwarding}
 use Rattle.std.proofs.lemmas.Bool.{lt-ltb}
-use Rattle.outside_core.specs.Written.{Appended}
-use Rattle.report_core.specs.Gathered.{text_of}
-use Rattle.pcap_defs.specs.Record.{most_captured}
 use Rattle.pcap_core.specs.Bytes.{record_bytes}
-use Rattle.packet_defs.specs.declared.packet.Packet.{Packet}
 use Rattle.tree_defs.specs.Tree.{Address}
-use Rattle.policy_defs.specs.Policy.{Policy}
-use Rattle.sched_defs.specs.Packets.{Captured}
-use Rattle.sched_defs.specs.Events.{Departed}
 use Rattle.forward_defs.specs.Sendings.{late}
 use Rattle.forward_defs.specs.Keeping.{without_bytes, record_for}
-use Rattle.sched_capture.specs.declared.forwarding.Forwarding.{Forwarding}
-use Rattle.sched_capture.specs.Forwarding.{bytes_kept, TellsRecords}
 
 -- released bytes are as short as all kept ones
 pub short_of : {V : Type 0} (items : V → List ℕ) (o r : Option V) → r ≡ o → ((bytes : List ℕ) → option_map items o ≡ Some bytes → length bytes ≤ most_captured) → IfSome r (λ v. length (items v) ≤ most_captured)

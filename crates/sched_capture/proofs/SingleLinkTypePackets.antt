@@ -1,18 +1,7 @@
 -- The packets of one link type, among those of a capture.
-use Rattle.std.proofs.Common.{◌≡◌, ◌+◌, ◌==◌, ℕ, Bool, true, false, true≢false, if◌then◌else◌, Option, Some, None, List, [], ◌∷◌, refl, sym, ap, ◌∙◌, subst, arith}
-use Rattle.std.specs.Prelude.{option_map}
+use Rattle.sched_capture.proofs.Prelude.{◌≡◌, List, Some, ℕ, None, Option, arith, sym, subst, ap, ◌∙◌, [], refl, ◌+◌, ◌∷◌, Bool, false, true, if◌then◌else◌, true≢false, ◌==◌, option_map, other_link, behind_packet, first_link, of_link, ReadError, Packet, Opens, Comes, IsAt, StopsAt, nothing_left, FileContents, holds, no_capture, Contents, FaultAt, CapturedPacket, Resolved, Refuses, IsNext, packet_told, one_link_in, link_in, rest_of_link, IsFirst, with_ahead}
 use Rattle.std.proofs.lemmas.Bool.{eq-eqb, ne_eqb}
-use Rattle.pcap_defs.specs.Packet.{CapturedPacket}
-use Rattle.pcap_defs.specs.Contents.{FaultAt, Contents, FileContents, no_capture, holds}
-use Rattle.pcap_core.specs.Captures.{Opens, Comes, IsAt, StopsAt, nothing_left}
-use Rattle.packet_defs.specs.declared.packet.Packet.{Packet}
-use Rattle.policy_rules.specs.Resolved.{Resolved}
-use Rattle.outside_core.specs.declared.read_error.ReadError.{ReadError}
 use Rattle.outside_core.specs.declared.read_error.ReadError.TheVariants.{Fault, Source, Memory}
-use Rattle.forward_defs.specs.SingleLinkType.{other_link, first_link, behind_packet, of_link}
-use Rattle.sched_capture.specs.NextPacket.{packet_told, IsNext}
-use Rattle.sched_capture.specs.Arrivals.{Refuses}
-use Rattle.sched_capture.specs.SingleLinkType.{one_link_in, link_in, with_ahead, rest_of_link, IsFirst}
 
 -- ---- one packet in front of others
 -- the fault at a packet of another link type

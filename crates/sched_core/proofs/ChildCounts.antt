@@ -1,13 +1,6 @@
 -- The number of children of a node, by its shape.
-use Rattle.std.proofs.Common.{◌≡◌, ◌<◌, ◌≤◌, ◌^◌, ℕ, zero, suc, List, [], ◌∷◌, length, map, Option, Some, None, refl, sym, ap, ◌∙◌, subst, arith, get_or}
-use Rattle.std.specs.Prelude.{unwrap_or}
-use Rattle.tree_defs.specs.Tree.{Tree, leaf, inner, Trees, none, more, Address, IsAddressOf, subtree, subtree_in, trees_of, count_of}
-use Rattle.tree_defs.specs.Topology.{Topology, topology_of, topologies_of}
+use Rattle.sched_core.proofs.Prelude.{arith, ◌≡◌, ap, ◌∙◌, sym, ℕ, List, length, subst, Some, ◌<◌, [], refl, ◌∷◌, Option, None, ◌≤◌, get_or, suc, zero, map, ◌^◌, unwrap_or, HasFewChildren, HaveFewChildren, Node, topology, topology_of, Topology, topologies_of, Tree, Address, inner, leaf, subtree, IsAddressOf, Trees, more, none, subtree_in, count_of, trees_of, part_at, arity}
 use Rattle.tree_core.specs.declared.topo.Topo.{Topo}
-use Rattle.tree_core.specs.Shape.{topology}
-use Rattle.policy_defs.specs.Policy.{Node}
-use Rattle.policy_defs.specs.Accepted.{HasFewChildren, HaveFewChildren}
-use Rattle.sched_core.specs.Kept.{part_at, arity}
 use Rattle.sched_core.proofs.TreeParts.{some-is, part-is, part-known, later, later-cons}
 
 abbrev pub shapes : List Topo → Trees (Unit {0})

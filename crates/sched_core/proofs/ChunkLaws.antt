@@ -1,10 +1,5 @@
 -- The packets in chunks, as they arrive and depart.
-use Rattle.std.proofs.Common.{◌≡◌, ◌≢◌, ℕ, zero, suc, ◌+◌, ◌<◌, ◌≤◌, ◌/◌, ◌%◌, ◌==◌, Bool, true, false, ◌&&◌, if◌then◌else◌, Option, None, Some, IfSome, List, [], ◌∷◌, ◌++◌, length, drop, set, get_or, refl, sym, subst, ap, ◌∙◌, arith}
-use Rattle.packet_defs.specs.declared.packet.Packet.{Packet}
-use Rattle.sched_core.specs.declared.chunk.Chunk.{Chunk}
-use Rattle.sched_core.specs.declared.slot.Slot.{Slot}
-use Rattle.sched_core.specs.Slots.{packet_in}
-use Rattle.sched_core.specs.Chunks.{packet_of, packet_within}
+use Rattle.sched_core.proofs.Prelude.{arith, ◌≡◌, ap, ◌∙◌, sym, ℕ, List, length, subst, Some, ◌<◌, [], refl, ◌∷◌, Option, None, ◌+◌, ◌≤◌, get_or, suc, zero, ◌++◌, if◌then◌else◌, ◌==◌, Bool, false, drop, set, true, ◌%◌, ◌&&◌, ◌≢◌, IfSome, ◌/◌, Packet, packet_within, packet_of, packet_in, Chunk, Slot}
 use Rattle.sched_core.proofs.SlotLaws.{if_same, if_other, split, named}
 
 pub here : (first : ℕ) (c : Chunk) (cs : List Chunk) (n : ℕ) → n / 64 ≡ first → packet_within first (c ∷ cs) n ≡ packet_of c n

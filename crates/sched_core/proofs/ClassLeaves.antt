@@ -1,19 +1,7 @@
 -- The classes of a policy and their leaves.
-use Rattle.std.proofs.Common.{◌≡◌, ◌<◌, ◌≤◌, ◌+◌, ℕ, zero, suc, List, [], ◌∷◌, length, map, Option, Some, None, refl, sym, ap, ◌∙◌, subst, arith, get_or}
-use Rattle.std.specs.Prelude.{slice_get, option_map, unwrap_or}
-use Rattle.std.proofs.lemmas.Option.{slice_get-map, slice_get-get_or}
-use Rattle.tree_defs.specs.Tree.{Tree, leaf, inner, Trees, none, more, Address, LeadsToLeaf, LeadsBelow, subtree, subtree_in, depth, depth_below, nodes}
-use Rattle.packet_defs.specs.declared.packet.Packet.{Packet}
-use Rattle.policy_defs.specs.Policy.{Policy, Node, Class as Aimed, no_marks}
-use Rattle.policy_defs.specs.Accepted.{IsAccepted, IsClassReady}
-use Rattle.policy_defs.specs.Numbers.{number_at}
+use Rattle.sched_core.proofs.Prelude.{arith, ◌≡◌, ap, ◌∙◌, sym, ℕ, List, length, subst, Some, ◌<◌, [], refl, ◌∷◌, Option, None, ◌+◌, ◌≤◌, get_or, suc, zero, map, slice_get-get_or, slice_get-map, slice_get, unwrap_or, option_map, Packet, address-undone, address_at, class_in, IsAccepted, IsClassReady, number_at, Node, Policy, no_marks, class_ready, class_of, Tree, Address, LeadsToLeaf, nodes, inner, leaf, subtree, Trees, more, none, depth, subtree_in, LeadsBelow, depth_below, part_at, arity}
+use Rattle.policy_defs.specs.Policy.{Class as Aimed}
 use Rattle.policy_core.specs.declared.parts.Class.{Class}
-use Rattle.policy_core.specs.Numbering.{address_at}
-use Rattle.policy_core.proofs.NumberedAddresses.{address-undone}
-use Rattle.policy_core.specs.Parts.{class_in}
-use Rattle.sched_defs.specs.SourceState.{class_of}
-use Rattle.sched_defs.proofs.Visits.{class_ready}
-use Rattle.sched_core.specs.Kept.{part_at, arity}
 use Rattle.sched_core.proofs.TreeParts.{part-known}
 
 record EndsAtLeaf {Q : Type 0} (part : Option (Tree Q)) : Type 0 where

@@ -1,14 +1,9 @@
 -- The policy of the tests is accepted.
-use Rattle.std.proofs.Common.{◌≡◌, ◌≤◌, ℕ, zero, suc, List, [], ◌∷◌, length, Some, refl, codes, subst, rules, arith}
+use Rattle.sched_core.proofs.Prelude.{arith, ◌≡◌, ℕ, List, length, subst, Some, [], refl, ◌∷◌, ◌≤◌, suc, zero, rules, codes, told, IsAccepted, AreMarksInRange, IsNodeReady, Node, node_at, IsShaped, Address}
 use Rattle.rank_defs.specs.Builtins.{strict, stfq}
-use Rattle.rank_defs.specs.Shapes.{IsShaped}
 use Rattle.rank_defs.specs.Checks.{IsChecked}
-use Rattle.tree_defs.specs.Tree.{Address}
 use Rattle.policy_core.specs.declared.parts.Marks.{Marks}
 use Rattle.policy_core.specs.Samples.{node, plain, urgent}
-use Rattle.policy_core.specs.Parts.{told}
-use Rattle.policy_defs.specs.Policy.{Node, node_at}
-use Rattle.policy_defs.specs.Accepted.{IsAccepted, IsNodeReady, AreMarksInRange}
 use Rattle.sched_core.specs.Samples.{fair}
 use Rattle.sched_core.proofs.TreeParts.{some-is}
 

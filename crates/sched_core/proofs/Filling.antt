@@ -1,31 +1,10 @@
 -- How many packets are at each leaf, by node number.
-use Rattle.std.proofs.Common.{◌≡◌, ◌≢◌, ◌≤◌, ◌<◌, ℕ, zero, suc, ◌+◌, ◌-◌, List, [], ◌∷◌, length, Option, Some, None, replicate, sym, ap, ◌∙◌, subst, arith, inl, inr}
-use Rattle.std.specs.Prelude.{slice_get, slice_set, slice_index, slice_index_or, IsSomeAnd}
-use Rattle.std.specs.Option.{option_map_or}
-use Rattle.std.proofs.lemmas.Bool.{cases_eq}
-use Rattle.std.proofs.lemmas.List.{get_or-replicate, length-replicate}
-use Rattle.std.proofs.lemmas.Option.{slice_get_within, get_or_from_slice_get, slice_get-get_or}
+use Rattle.sched_core.proofs.Prelude.{arith, ◌≡◌, ap, ◌∙◌, sym, ℕ, List, length, subst, Some, ◌<◌, [], ◌∷◌, Option, None, ◌+◌, ◌≤◌, suc, zero, ◌-◌, ◌≢◌, inl, inr, replicate, cases_eq, get_or-replicate, length-replicate, slice_get-get_or, get_or_from_slice_get, slice_get_within, option_map_or, slice_get, slice_index_or, slice_set, IsSomeAnd, slice_index, Packet, number-undone, IsNumber, address_at, HasAt, IsAccepted, number_at, Node, Policy, node_at, limit_at, get_set_other, get_set_same, leads_in, class_is_ready, IsSound, class_of, SourceState, arrival_ranks, filled, left_with, pushed, start, size-empty, SourceTree, pop, size, empty_tree, sizes, topology_of, Tree, Address, LeadsToLeaf, nodes, inner, leaf, Trees, more, none, Popping, leaf_number, AreFilled}
 use Rattle.tree_defs.specs.Queue.{Queue, take_least, take_from, Taking}
 use Rattle.tree_defs.proofs.TakeLeast.{length-put, length-rest}
-use Rattle.tree_defs.specs.Tree.{Tree, leaf, inner, Trees, none, more, Address, LeadsToLeaf, Popping, nodes}
-use Rattle.tree_defs.specs.Topology.{topology_of}
-use Rattle.tree_defs.specs.SourceTree.{SourceTree, pop, size, sizes, empty_tree}
 use Rattle.tree_defs.specs.Packets.{queue_at, queue_in}
 use Rattle.tree_defs.proofs.TopologyLaws.{leaf_at}
-use Rattle.tree_defs.proofs.WellFormedLaws.{size-empty}
 use Rattle.tree_defs.proofs.PacketLaws.{queue_at-push, queue_at-push_elsewhere, queue_at-pop, queue_at-pop_elsewhere}
-use Rattle.rank_core.proofs.Lists.{get_set_same, get_set_other}
-use Rattle.packet_defs.specs.declared.packet.Packet.{Packet}
-use Rattle.policy_defs.specs.Policy.{Policy, Node, node_at, limit_at}
-use Rattle.policy_defs.specs.Accepted.{IsAccepted}
-use Rattle.policy_defs.specs.Numbers.{number_at}
-use Rattle.policy_core.specs.Numbering.{address_at, HasAt}
-use Rattle.policy_core.proofs.NumberedAddresses.{IsNumber, number-undone}
-use Rattle.sched_defs.specs.SourceState.{SourceState, start, class_of, arrival_ranks, filled, pushed, left_with}
-use Rattle.sched_defs.specs.Sound.{IsSound}
-use Rattle.sched_defs.proofs.Soundness.{class_is_ready, leads_in}
-use Rattle.sched_core.specs.Arrivals.{leaf_number}
-use Rattle.sched_core.specs.PolicyState.{AreFilled}
 
 -- ---- the packets at a leaf are among all packets
 mutual

@@ -1,23 +1,5 @@
 -- The states of the nodes at the start.
-use Rattle.std.proofs.Common.{◌≡◌, ◌<◌, ◌^◌, ◌+◌, ℕ, zero, suc, List, [], ◌∷◌, ◌++◌, length, Option, Some, None, refl, sym, ap, ◌∙◌, subst}
-use Rattle.std.specs.Prelude.{slice_get, IsSomeAnd, IfOk, Result, Ok, Err}
-use Rattle.std.specs.Option.{option_map_or}
-use Rattle.std.proofs.lemmas.List.{length-append}
-use Rattle.tree_defs.specs.Tree.{Tree, Address, IsAddressOf, root_of, nodes}
-use Rattle.tree_defs.specs.Topology.{Topology, topology_of}
-use Rattle.rank_defs.specs.declared.environment.Who.TheVariants.{Child}
-use Rattle.rank_defs.specs.Programs.{Program}
-use Rattle.rank_defs.specs.States.{SameState, State, first_state}
-use Rattle.rank_defs.specs.Shapes.{IsStateInRange}
-use Rattle.rank_core.specs.declared.node.NodeState.{NodeState}
-use Rattle.rank_core.specs.Node.{state_of, children_of, BelongsTo, HasRoom}
-use Rattle.policy_defs.specs.Policy.{Node, node_at}
-use Rattle.policy_defs.specs.Accepted.{HasFewChildren}
-use Rattle.policy_defs.specs.Numbers.{number_at}
-use Rattle.policy_core.specs.Numbering.{address_at}
-use Rattle.policy_core.proofs.NumberedAddresses.{address-undone, number-undone}
-use Rattle.sched_defs.specs.SourceState.{first_states, no_state}
-use Rattle.sched_core.specs.Kept.{part_at, arity, Keeps, IsStationOf, AreStations, HaveValues}
+use Rattle.sched_core.proofs.Prelude.{◌≡◌, ap, ◌∙◌, sym, ℕ, List, length, subst, Some, ◌<◌, [], refl, ◌∷◌, Option, None, ◌+◌, suc, zero, ◌++◌, ◌^◌, length-append, option_map_or, slice_get, IsSomeAnd, Err, IfOk, Ok, Result, address-undone, number-undone, address_at, HasFewChildren, number_at, Node, node_at, HasRoom, state_of, BelongsTo, children_of, NodeState, Program, IsStateInRange, SameState, State, first_state, Child, first_states, no_state, topology_of, Topology, Tree, Address, nodes, IsAddressOf, root_of, part_at, HaveValues, AreStations, IsStationOf, arity, Keeps}
 use Rattle.sched_core.proofs.TreeParts.{some-is, some-and, part-is, part-known, node-of_part}
 use Rattle.sched_core.proofs.ChildCounts.{arity-told, shape-there, few-children}
 

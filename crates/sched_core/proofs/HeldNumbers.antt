@@ -1,8 +1,5 @@
 -- The packets in slots and among the strays.
-use Rattle.std.specs.Prelude.{Result, Ok, Err, IfOk, OnErr}
-use Rattle.std.proofs.Common.{◌≡◌, ◌≢◌, ℕ, Bool, ◌&&◌, true, false, ◌||◌, if◌then◌else◌, ◌==◌, Option, None, Some, is_some, sym, refl, ap, ap₂, ◌∙◌, true≢false}
-use Rattle.packet_defs.specs.declared.packet.Packet.{Packet}
-use Rattle.sched_core.specs.Held.{or_stray}
+use Rattle.sched_core.proofs.Prelude.{◌≡◌, ap, ◌∙◌, sym, ℕ, Some, refl, Option, None, is_some, if◌then◌else◌, ◌==◌, Bool, false, true≢false, ap₂, true, ◌&&◌, ◌≢◌, ◌||◌, Err, IfOk, Ok, Result, OnErr, Packet, or_stray}
 use Rattle.sched_core.proofs.SlotLaws.{if_same, if_other, split}
 
 pub is_some-or_stray : (p s : Option Packet) → is_some (or_stray p s) ≡ (is_some p || is_some s)

@@ -1,13 +1,7 @@
 -- The number of the leaf of a class.
-use Rattle.std.proofs.Common.{◌≡◌, ℕ, zero, suc, ◌<◌, List, [], ◌∷◌, length, map, slice_get, slice_index_or, unwrap_or, sym, arith}
-use Rattle.std.specs.List.{AllByRecursion}
-use Rattle.tree_defs.specs.Tree.{Tree, nodes}
-use Rattle.policy_defs.specs.Policy.{Node, Class as Aimed}
-use Rattle.policy_defs.specs.Numbers.{number_at}
+use Rattle.sched_core.proofs.Prelude.{arith, ◌≡◌, sym, ℕ, List, length, ◌<◌, [], ◌∷◌, suc, zero, map, AllByRecursion, slice_get, slice_index_or, unwrap_or, address-undone, IsAddress, address_at, class_in, number_at, Node, Tree, nodes}
+use Rattle.policy_defs.specs.Policy.{Class as Aimed}
 use Rattle.policy_core.specs.declared.parts.Class.{Class}
-use Rattle.policy_core.specs.Numbering.{address_at}
-use Rattle.policy_core.specs.Parts.{class_in}
-use Rattle.policy_core.proofs.NumberedAddresses.{IsAddress, address-undone}
 
 -- it is the number at its address
 pub leaf-number : (tree : Tree Node) (all : List Class) (i : ℕ) (c : Class) (d : Aimed) → i < length all → AllByRecursion (λ x. x.leaf < nodes tree) all

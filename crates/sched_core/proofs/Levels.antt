@@ -1,11 +1,5 @@
 -- The nodes on the path to a leaf, level by level.
-use Rattle.std.proofs.Common.{◌≡◌, ◌<◌, ◌≤◌, ℕ, zero, suc, ◌+◌, List, [], ◌∷◌, ◌++◌, length, Some, sym, ap, ◌∙◌, subst, arith, take, drop, get_or}
-use Rattle.std.proofs.lemmas.List.{drop_more, take_more}
-use Rattle.tree_defs.specs.Tree.{Tree, LeadsToLeaf, subtree}
-use Rattle.policy_defs.specs.Policy.{Node}
-use Rattle.policy_defs.specs.Numbers.{number_at}
-use Rattle.policy_core.proofs.NumberedAddresses.{IsNumber, number-undone}
-use Rattle.sched_core.specs.Kept.{part_at}
+use Rattle.sched_core.proofs.Prelude.{arith, ◌≡◌, ap, ◌∙◌, sym, ℕ, List, length, subst, Some, ◌<◌, [], ◌∷◌, ◌+◌, ◌≤◌, get_or, suc, zero, ◌++◌, take, drop, drop_more, take_more, number-undone, IsNumber, number_at, Node, Tree, LeadsToLeaf, subtree, part_at}
 use Rattle.sched_core.proofs.TreeParts.{IsNext, next, root-part, part-down, part-known}
 
 -- a part of the tree is at the level, and the rest of the digits leads on to a leaf

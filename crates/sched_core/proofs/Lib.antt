@@ -1,3 +1,4 @@
+pub mod Prelude
 pub mod SlotLaws
 pub mod ChunkLaws
 pub mod NumberLaws

@@ -1,31 +1,7 @@
 -- A step of one node on the path.
-use Rattle.std.proofs.Common.{◌≡◌, ◌<◌, ◌≤◌, ℕ, List, [], ◌∷◌, ◌++◌, length, Some, sym, ap, ◌∙◌, subst, arith, append-nil, refl}
-use Rattle.std.proofs.lemmas.Option.{slice_get-get_or}
-use Rattle.std.proofs.lemmas.List.{take-append-drop, drop_all}
-use Rattle.std.specs.Prelude.{◌↔◌, slice_get, slice_set, slice_index, slice_index_or}
-use Rattle.tree_defs.specs.Tree.{Tree, leaf, inner, Address, LeadsToLeaf, subtree}
-use Rattle.rank_defs.specs.declared.environment.Env.{Env}
-use Rattle.rank_defs.specs.declared.environment.Who.{Who}
-use Rattle.rank_defs.specs.declared.environment.Who.TheVariants.{Child, Flow}
-use Rattle.rank_defs.specs.Programs.{Program, max_rank}
-use Rattle.rank_defs.specs.States.{State, SameState}
-use Rattle.rank_defs.specs.Shapes.{IsStateInRange}
-use Rattle.rank_defs.specs.Steps.{push_rank, after_push, after_pop}
-use Rattle.rank_defs.proofs.SameStates.{same-trans, push_step-same, after_push-same, after_pop-same}
+use Rattle.sched_core.proofs.Prelude.{arith, ◌≡◌, ap, ◌∙◌, sym, ℕ, List, length, subst, Some, ◌<◌, [], refl, ◌∷◌, ◌≤◌, ◌++◌, ◌↔◌, append-nil, drop_all, take-append-drop, slice_get-get_or, slice_get, slice_index_or, slice_set, slice_index, address_at, told, AreMarksInRange, Node, IsForm, RunAs, HasRoom, state_of, children_of, NodeState, same-trans, after_pop-same, after_push-same, push_step-same, max_rank, Program, IsStateInRange, SameState, State, after_push, after_pop, push_rank, Env, Who, Child, Flow, Visit, States, after_pops, after_pushes, env_for, rank_at, with_state, Tree, Address, LeadsToLeaf, inner, leaf, subtree, part_at, HaveValues, AreStations, HasRoomAt, IsStationOf, Keeps, marks_on, rank_told, IsWaypoint, tree_for, class_for, IsReady, ForValues, KeepsRoom, stop, ahead, part, place, who_on, HasRoomAtLeaf, ValuesBecome, PacketPath, PathNode}
 use Rattle.rank_core.specs.declared.form.Form.TheVariants.{Empty}
-use Rattle.rank_core.specs.declared.node.NodeState.{NodeState}
-use Rattle.rank_core.specs.Forms.{IsForm, RunAs}
-use Rattle.rank_core.specs.Node.{state_of, children_of, HasRoom}
-use Rattle.policy_defs.specs.Policy.{Node, Class, Marks}
-use Rattle.policy_defs.specs.Accepted.{AreMarksInRange}
-use Rattle.policy_core.specs.Numbering.{address_at}
-use Rattle.policy_core.specs.Parts.{told}
-use Rattle.sched_defs.specs.Visits.{States, Visit, env_for, rank_at, with_state, after_pushes, after_pops}
-use Rattle.sched_core.specs.declared.packet_path.PacketPath.{PacketPath}
-use Rattle.sched_core.specs.declared.path_node.PathNode.{PathNode}
-use Rattle.sched_core.specs.Kept.{part_at, Keeps, IsStationOf, AreStations, HaveValues, HasRoomAt}
-use Rattle.sched_core.specs.Waypoints.{marks_on, rank_told, IsWaypoint}
-use Rattle.sched_core.specs.Ways.{IsReady, tree_for, class_for, place, ahead, part, who_on, stop, HasRoomAtLeaf, ForValues, ValuesBecome, KeepsRoom}
+use Rattle.policy_defs.specs.Policy.{Class, Marks}
 use Rattle.sched_core.proofs.TreeParts.{IsNext, next, node-of_part, part-down}
 use Rattle.sched_core.proofs.Levels.{there-at, leads-at, number-of, ahead-next}
 use Rattle.sched_core.proofs.RanksTold.{told-low, told-rank, told-after, no_lines-after}

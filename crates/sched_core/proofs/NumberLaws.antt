@@ -1,11 +1,6 @@
 -- The numbers that have a packet.
-use Rattle.std.proofs.Common.{◌≡◌, ℕ, zero, suc, ◌+◌, ◌<◌, ◌≤◌, ◌==◌, nat_eq, Bool, true, false, ◌||◌, if◌then◌else◌, Option, None, Some, is_some, List, [], ◌∷◌, ◌++◌, length, refl, sym, subst, ap, ap₂, ◌∙◌, true≢false, arith, eq-eqb, ne_eqb, nat_lt, add-one}
-use Rattle.std.specs.List.{list_any, AllByRecursion, IsDistinct}
-use Rattle.std.proofs.lemmas.Bool.{ltb-true, ltb-false}
-use Rattle.std.proofs.lemmas.List.Folds.{list_any-append}
+use Rattle.sched_core.proofs.Prelude.{arith, ◌≡◌, ap, ◌∙◌, sym, ℕ, List, length, subst, Some, ◌<◌, [], refl, ◌∷◌, Option, None, ◌+◌, ◌≤◌, suc, zero, ◌++◌, is_some, if◌then◌else◌, nat_eq, ◌==◌, Bool, false, true≢false, ap₂, true, ◌||◌, add-one, eq-eqb, ne_eqb, nat_lt, ltb-true, ltb-false, list_any-append, AllByRecursion, IsDistinct, list_any, Packet, numbers_below}
 use Rattle.std.proofs.lemmas.Map.Keys.{IsDistinct-cons}
-use Rattle.packet_defs.specs.declared.packet.Packet.{Packet}
-use Rattle.sched_core.specs.Chunks.{numbers_below}
 use Rattle.sched_core.proofs.SlotLaws.{if_same, if_other, split, by_bool}
 
 pub none-found : (o : Option Packet) → is_some o ≡ false → o ≡ None

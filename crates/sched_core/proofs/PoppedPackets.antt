@@ -1,15 +1,6 @@
 -- The packet that is popped next.
-use Rattle.std.proofs.Common.{◌≡◌, ℕ, List, Some, refl}
-use Rattle.tree_defs.specs.Tree.{Popping}
-use Rattle.tree_defs.specs.SourceTree.{SourceTree}
-use Rattle.packet_defs.specs.declared.packet.Packet.{Packet}
-use Rattle.policy_defs.specs.Policy.{Policy}
-use Rattle.sched_defs.specs.SourceState.{SourceState, departed, leaver, leaving, left_with}
-use Rattle.sched_defs.specs.Sound.{IsSound, IsAtItsLeaf}
-use Rattle.sched_defs.specs.Laws.{LeavesItsLeaf}
-use Rattle.sched_defs.proofs.Soundness.{popped_is_held}
+use Rattle.sched_core.proofs.Prelude.{◌≡◌, ℕ, List, Some, refl, Packet, Policy, popped_is_held, LeavesItsLeaf, IsSound, IsAtItsLeaf, SourceState, leaver, left_with, departed, leaving, SourceTree, Popping, PopsNext}
 use Rattle.sched_defs.proofs.Leaving.{pop_leaves}
-use Rattle.sched_core.specs.PolicyState.{PopsNext}
 
 module _ (policy : Policy) (s : SourceState) (number : ℕ) (digits ranks : List ℕ) (next : PopsNext s number digits ranks) where
   abbrev pub taken : Popping SourceTree

@@ -1,24 +1,13 @@
 -- The rank of a push step whose marks alone determine it, and steps that change no variable.
-use Rattle.std.proofs.Common.{◌≡◌, ◌≤◌, ℕ, List, [], ◌∷◌, Some, refl, sym, ap, ◌∙◌, subst, arith}
-use Rattle.std.specs.Prelude.{pos}
+use Rattle.sched_core.proofs.Prelude.{arith, ◌≡◌, ap, ◌∙◌, sym, ℕ, List, subst, Some, [], refl, ◌∷◌, ◌≤◌, pos, Packet, AreMarksInRange, RunAs, max_rank, Program, Assignment, span, target, SameState, State, Memory, memory_for, put_back, variable_in, after_push, after_pop, push_rank, clamped, run, write, Env, Who, env_for, rank_told, mark_told}
 use Rattle.std.proofs.lemmas.Int.{ints, clamps}
-use Rattle.rank_defs.specs.declared.environment.Env.{Env}
-use Rattle.rank_defs.specs.declared.environment.Who.{Who}
 use Rattle.rank_defs.specs.declared.expression.Var.TheVariants.{Prio, Weight, Slack}
 use Rattle.rank_defs.specs.declared.transaction.Aim.{Aim}
 use Rattle.rank_defs.specs.declared.transaction.Aim.TheVariants.{Rank}
 use Rattle.rank_defs.specs.Formulas.{Formula, variable}
-use Rattle.rank_defs.specs.Programs.{Program, Assignment, span, target, max_rank}
-use Rattle.rank_defs.specs.States.{State, SameState, Memory, memory_for, put_back, variable_in}
-use Rattle.rank_defs.specs.Steps.{clamped, write, run, push_rank, after_push, after_pop}
 use Rattle.rank_defs.specs.Values.{num, value_of}
-use Rattle.rank_core.specs.Forms.{RunAs}
 use Rattle.rank_core.proofs.NoLines.{put_back-unchanged}
-use Rattle.packet_defs.specs.declared.packet.Packet.{Packet}
 use Rattle.policy_defs.specs.Policy.{Marks}
-use Rattle.policy_defs.specs.Accepted.{AreMarksInRange}
-use Rattle.sched_defs.specs.Visits.{env_for}
-use Rattle.sched_core.specs.Waypoints.{mark_told, rank_told}
 use Rattle.sched_core.proofs.TreeParts.{some-is}
 
 -- a number up to the greatest rank is unchanged

@@ -1,21 +1,6 @@
 -- Room made at one node.
-use Rattle.std.proofs.Common.{◌≡◌, ◌<◌, ℕ, List, length, Some, sym, ap, ◌∙◌, subst, get_or}
-use Rattle.std.specs.Prelude.{slice_get, slice_set}
-use Rattle.std.proofs.lemmas.Option.{slice_get-get_or}
-use Rattle.tree_defs.specs.Tree.{Tree, Address, LeadsToLeaf, nodes}
+use Rattle.sched_core.proofs.Prelude.{◌≡◌, ap, ◌∙◌, sym, ℕ, List, length, subst, Some, ◌<◌, get_or, slice_get-get_or, slice_get, slice_set, address-undone, address_at, number_at, Node, HasRoom, state_of, BelongsTo, children_of, NodeState, same-trans, in_range-same, same-sym, SameState, Who, Child, Flow, States, Tree, Address, LeadsToLeaf, nodes, part_at, HaveValues, AreStations, HasRoomAt, IsStationOf}
 use Rattle.rank_defs.specs.declared.environment.FlowKey.{FlowKey}
-use Rattle.rank_defs.specs.declared.environment.Who.{Who}
-use Rattle.rank_defs.specs.declared.environment.Who.TheVariants.{Child, Flow}
-use Rattle.rank_defs.specs.States.{SameState}
-use Rattle.rank_defs.proofs.SameStates.{same-sym, same-trans, in_range-same}
-use Rattle.rank_core.specs.declared.node.NodeState.{NodeState}
-use Rattle.rank_core.specs.Node.{state_of, children_of, BelongsTo, HasRoom}
-use Rattle.policy_defs.specs.Policy.{Node}
-use Rattle.policy_defs.specs.Numbers.{number_at}
-use Rattle.policy_core.specs.Numbering.{address_at}
-use Rattle.policy_core.proofs.NumberedAddresses.{address-undone}
-use Rattle.sched_defs.specs.Visits.{States}
-use Rattle.sched_core.specs.Kept.{part_at, IsStationOf, AreStations, HaveValues, HasRoomAt}
 use Rattle.sched_core.proofs.TreeParts.{part-is}
 use Rattle.sched_core.proofs.StateUpdates.{set-cases, stations-set, room-set}
 use Rattle.sched_core.proofs.ClassLeaves.{leaf-arity}

@@ -1,24 +1,6 @@
 -- The path from the root.
-use Rattle.std.proofs.Common.{◌≡◌, ◌≤◌, ℕ, List, [], Option, Some, sym, ap, ◌∙◌, subst, arith, get_or}
-use Rattle.std.specs.Prelude.{slice_get, unwrap_or, Vec}
-use Rattle.std.specs.declared.alloc.Global.{Global}
-use Rattle.std.proofs.lemmas.Option.{slice_get-get_or}
-use Rattle.tree_defs.specs.Tree.{Tree, LeadsToLeaf}
-use Rattle.rank_defs.specs.declared.environment.Who.{Who}
-use Rattle.rank_defs.specs.Programs.{max_rank}
-use Rattle.rank_core.specs.declared.node.NodeState.{NodeState}
-use Rattle.packet_defs.specs.declared.packet.Packet.{Packet}
-use Rattle.policy_defs.specs.Policy.{Policy, Node, Class, no_marks}
-use Rattle.policy_defs.specs.Accepted.{IsAccepted, IsClassReady, AreMarksInRange}
-use Rattle.sched_defs.specs.Visits.{visits_from}
-use Rattle.sched_defs.specs.SourceState.{class_of}
-use Rattle.sched_defs.specs.Sound.{IsKnown}
-use Rattle.sched_defs.proofs.Visits.{class_ready}
-use Rattle.sched_core.specs.declared.packet_path.PacketPath.{PacketPath}
-use Rattle.sched_core.specs.declared.path_node.PathNode.{PathNode}
-use Rattle.sched_core.specs.Kept.{part_at, HasRoomAt}
-use Rattle.sched_core.specs.Waypoints.{AreWaypoints, AreWays}
-use Rattle.sched_core.specs.Ways.{IsReady, tree_for, class_for}
+use Rattle.sched_core.proofs.Prelude.{arith, ◌≡◌, ap, ◌∙◌, sym, ℕ, List, subst, Some, [], Option, ◌≤◌, get_or, slice_get-get_or, slice_get, unwrap_or, Vec, Global, Packet, IsAccepted, AreMarksInRange, IsClassReady, Node, Policy, no_marks, NodeState, max_rank, Who, class_ready, IsKnown, class_of, visits_from, Tree, LeadsToLeaf, part_at, HasRoomAt, AreWaypoints, AreWays, tree_for, class_for, IsReady, PacketPath, PathNode}
+use Rattle.policy_defs.specs.Policy.{Class}
 use Rattle.sched_core.proofs.TreeParts.{root-part, part-known}
 
 -- ---- the entries for a packet's class

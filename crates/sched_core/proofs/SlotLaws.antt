@@ -1,10 +1,5 @@
 -- The packets in slots, as they arrive and depart.
-use Rattle.std.proofs.Common.{◌≡◌, ◌≢◌, nat_le, subst, ℕ, zero, suc, ◌+◌, ◌<◌, ◌≤◌, ◌%◌, ◌==◌, nat_eq, Bool, true, false, ◌&&◌, if◌then◌else◌, Option, None, Some, is_some, IfSome, List, [], ◌∷◌, ◌++◌, length, take, add-one, set, get_or, refl, sym, ap, ◌∙◌, true≢false, arith, eq-eqb, ne_eqb, eqb-true}
-use Rattle.std.specs.Prelude.{⊤}
-use Rattle.std.proofs.lemmas.Bool.{eqb-false, leb-true, le-leb, and_parts, and_from}
-use Rattle.packet_defs.specs.declared.packet.Packet.{Packet}
-use Rattle.sched_core.specs.declared.slot.Slot.{Slot}
-use Rattle.sched_core.specs.Slots.{packet_in, stands_at, packet_among, filled_among, are_ordered, place_behind}
+use Rattle.sched_core.proofs.Prelude.{arith, ◌≡◌, ap, ◌∙◌, sym, ℕ, List, length, subst, Some, ◌<◌, [], refl, ◌∷◌, Option, None, ◌+◌, ◌≤◌, get_or, suc, zero, ◌++◌, is_some, if◌then◌else◌, nat_eq, ◌==◌, Bool, false, take, true≢false, set, true, ◌%◌, ◌&&◌, ◌≢◌, IfSome, add-one, eq-eqb, ne_eqb, eqb-true, nat_le, and_from, and_parts, eqb-false, le-leb, leb-true, ⊤, Packet, packet_in, packet_among, are_ordered, filled_among, place_behind, stands_at, Slot}
 
 -- ---- a test of two numbers
 pub if_same : {X : Type 0} (n m : ℕ) (a b : X) → n ≡ m → (if n == m then a else b) ≡ a

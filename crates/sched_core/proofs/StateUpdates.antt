@@ -1,20 +1,6 @@
 -- The states with one node's state replaced.
-use Rattle.std.proofs.Common.{◌≡◌, ◌≢◌, ◌<◌, ℕ, zero, suc, List, [], ◌∷◌, true, false, Bool, Some, None, refl, sym, ap, ◌∙◌, subst, arith, bytes_eq}
-use Rattle.std.specs.Prelude.{slice_get, slice_set, if◌then◌else◌}
-use Rattle.std.proofs.lemmas.List.{length-set}
+use Rattle.sched_core.proofs.Prelude.{arith, ◌≡◌, ap, ◌∙◌, sym, ℕ, List, subst, Some, ◌<◌, [], refl, ◌∷◌, None, suc, zero, if◌then◌else◌, Bool, false, true, ◌≢◌, bytes_eq, length-set, slice_get, slice_set, address-undone, number-undone, address_at, number_at, Node, HasRoom, state_of, NodeState, same-trans, SameState, State, Who, States, with_state, Tree, Address, nodes, subtree, IsAddressOf, part_at, HaveValues, AreStations, HasRoomAt, IsStationOf, Keeps}
 use Rattle.std.proofs.lemmas.Slice.Eq.{bytes_eq-Decides}
-use Rattle.tree_defs.specs.Tree.{Tree, Address, IsAddressOf, subtree, nodes}
-use Rattle.rank_defs.specs.declared.environment.Who.{Who}
-use Rattle.rank_defs.specs.States.{State, SameState}
-use Rattle.rank_defs.proofs.SameStates.{same-trans}
-use Rattle.rank_core.specs.declared.node.NodeState.{NodeState}
-use Rattle.rank_core.specs.Node.{state_of, HasRoom}
-use Rattle.policy_defs.specs.Policy.{Node}
-use Rattle.policy_defs.specs.Numbers.{number_at}
-use Rattle.policy_core.specs.Numbering.{address_at}
-use Rattle.policy_core.proofs.NumberedAddresses.{number-undone, address-undone}
-use Rattle.sched_defs.specs.Visits.{States, with_state}
-use Rattle.sched_core.specs.Kept.{part_at, Keeps, IsStationOf, AreStations, HaveValues, HasRoomAt}
 use Rattle.sched_core.proofs.TreeParts.{some-is, part-known}
 
 -- an item of a list with one item replaced is the new one, or was there before

@@ -1,12 +1,5 @@
 -- The steps above a level were made, and the steps from there down make up the rest of the path.
-use Rattle.std.proofs.Common.{◌≡◌, ◌<◌, ℕ, ◌+◌, List, [], ◌∷◌, ◌++◌, length, refl, sym, ap, ◌∙◌, subst, drop, get_or, append_assoc}
-use Rattle.std.proofs.lemmas.List.{drop_more}
-use Rattle.rank_defs.specs.Steps.{after_push}
-use Rattle.rank_core.specs.declared.node.NodeState.{NodeState}
-use Rattle.sched_defs.specs.Visits.{States, Visit, rank_at, ranks_pushed, after_pushes, after_pops}
-use Rattle.sched_core.specs.declared.packet_path.PacketPath.{PacketPath}
-use Rattle.sched_core.specs.Kept.{HaveValues}
-use Rattle.sched_core.specs.Ways.{IsReady, tree_for, class_for, stop, way}
+use Rattle.sched_core.proofs.Prelude.{◌≡◌, ap, ◌∙◌, sym, ℕ, List, length, subst, ◌<◌, [], refl, ◌∷◌, ◌+◌, get_or, ◌++◌, drop, append_assoc, drop_more, NodeState, after_push, Visit, States, after_pops, after_pushes, ranks_pushed, rank_at, HaveValues, tree_for, class_for, IsReady, stop, way, PacketPath}
 use Rattle.sched_core.proofs.WayVisits.{way-next, way-ends, ranks-next}
 
 -- after the push steps above a level, which gave these ranks

@@ -1,15 +1,6 @@
 -- Parts of a tree, and the child to which a path leads next.
-use Rattle.std.proofs.Common.{◌≡◌, ◌<◌, ℕ, zero, suc, List, [], ◌∷◌, ◌++◌, length, Option, Some, refl, sym, ap, ◌∙◌, subst, arith, take, drop}
-use Rattle.std.specs.Prelude.{unwrap_or, IsSomeAnd, ◌-◌}
-use Rattle.std.proofs.lemmas.List.{take_all}
-use Rattle.tree_defs.specs.Tree.{Tree, leaf, inner, Trees, none, more, Address, IsAddressOf, LeadsToLeaf, LeadsBelow, subtree, subtree_in, root_of, count_of}
-use Rattle.rank_defs.specs.declared.environment.Who.TheVariants.{Child, Flow}
-use Rattle.rank_core.specs.Node.{BelongsTo}
-use Rattle.packet_defs.specs.declared.packet.Packet.{Packet}
-use Rattle.policy_defs.specs.Policy.{Node, Class, node_at, node_below}
-use Rattle.sched_defs.specs.Visits.{Visit, visit, env_for, child_marks, visits_from, visits_below}
-use Rattle.sched_core.specs.Kept.{part_at, arity}
-use Rattle.sched_core.specs.Waypoints.{marks_on}
+use Rattle.sched_core.proofs.Prelude.{arith, ◌≡◌, ap, ◌∙◌, sym, ℕ, List, length, subst, Some, ◌<◌, [], refl, ◌∷◌, Option, suc, zero, ◌++◌, take, drop, ◌-◌, take_all, unwrap_or, IsSomeAnd, Packet, Node, node_at, node_below, BelongsTo, Child, Flow, Visit, env_for, visits_from, visit, visits_below, child_marks, Tree, Address, LeadsToLeaf, inner, leaf, subtree, IsAddressOf, Trees, more, none, root_of, subtree_in, LeadsBelow, count_of, part_at, arity, marks_on}
+use Rattle.policy_defs.specs.Policy.{Class}
 
 pub some-is : {X : Type 0} {x y : X} → Some x ≡ Some y → x ≡ y
 some-is e = cc

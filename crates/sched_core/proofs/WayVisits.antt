@@ -1,16 +1,7 @@
 -- The visits on the path from a level down.
-use Rattle.std.proofs.Common.{◌≡◌, ◌<◌, ◌≤◌, ℕ, zero, suc, ◌+◌, List, [], ◌∷◌, ◌++◌, length, refl, sym, ap, ◌∙◌, subst, arith, get_or}
-use Rattle.std.specs.List.{AllByRecursion}
-use Rattle.std.proofs.lemmas.List.{length-append, drop_all}
-use Rattle.tree_defs.specs.Tree.{Tree, leaf, inner, Trees, none, more, Address, LeadsToLeaf, root_of}
-use Rattle.rank_defs.specs.States.{State}
-use Rattle.packet_defs.specs.declared.packet.Packet.{Packet}
-use Rattle.policy_defs.specs.Policy.{Node, Class}
+use Rattle.sched_core.proofs.Prelude.{arith, ◌≡◌, ap, ◌∙◌, sym, ℕ, List, length, subst, ◌<◌, [], refl, ◌∷◌, ◌+◌, ◌≤◌, get_or, suc, zero, ◌++◌, length-append, drop_all, AllByRecursion, Packet, Node, State, Visit, States, env_for, ranks_pushed, visits_from, rank_at, with_state, visit, visits_below, Tree, Address, LeadsToLeaf, inner, leaf, Trees, more, none, root_of, marks_on, tree_for, class_for, IsReady, stop, ahead, part, place, way, who_on, PacketPath}
+use Rattle.policy_defs.specs.Policy.{Class}
 use Rattle.policy_rules.proofs.Lists.{all-weaker}
-use Rattle.sched_defs.specs.Visits.{States, Visit, visit, env_for, visits_from, visits_below, with_state, rank_at, ranks_pushed}
-use Rattle.sched_core.specs.declared.packet_path.PacketPath.{PacketPath}
-use Rattle.sched_core.specs.Waypoints.{marks_on}
-use Rattle.sched_core.specs.Ways.{IsReady, tree_for, class_for, place, ahead, part, who_on, stop, way}
 use Rattle.sched_core.proofs.TreeParts.{ends}
 use Rattle.sched_core.proofs.StateUpdates.{with-apart}
 use Rattle.sched_core.proofs.Levels.{leads-at, ahead-next, place-next, next-at, part-next}

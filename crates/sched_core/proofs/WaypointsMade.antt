@@ -1,22 +1,8 @@
 -- The nodes on the paths of classes, taken from a policy one after another.
-use Rattle.std.proofs.Common.{◌≡◌, ◌<◌, ◌≤◌, ℕ, zero, suc, ◌+◌, List, [], ◌∷◌, ◌++◌, length, map, Some, None, refl, sym, ap, ◌∙◌, subst, arith, take, drop, get_or}
-use Rattle.std.specs.Prelude.{slice_get, slice_index_or, option_map, Vec}
-use Rattle.std.specs.List.{AllByRecursion}
-use Rattle.std.specs.declared.alloc.Global.{Global}
-use Rattle.std.proofs.lemmas.List.{length-append, drop_all}
-use Rattle.std.proofs.lemmas.Option.{slice_get-map, slice_get-get_or}
-use Rattle.tree_defs.specs.Tree.{Tree, leaf, inner, Address, IsAddressOf, LeadsToLeaf, nodes}
-use Rattle.rank_core.specs.Forms.{IsForm}
-use Rattle.policy_defs.specs.Policy.{Policy, Node, Class as Aimed, Marks as Told, node_at}
-use Rattle.policy_defs.specs.Accepted.{IsAccepted, IsClassReady}
-use Rattle.policy_defs.specs.Numbers.{number_at}
+use Rattle.sched_core.proofs.Prelude.{arith, ◌≡◌, ap, ◌∙◌, sym, ℕ, List, length, subst, Some, ◌<◌, [], refl, ◌∷◌, None, ◌+◌, ◌≤◌, get_or, suc, zero, ◌++◌, take, drop, map, length-append, drop_all, slice_get-get_or, slice_get-map, AllByRecursion, slice_get, slice_index_or, Vec, option_map, Global, address_at, HasAt, class_in, told, IsAccepted, IsClassReady, number_at, Node, Policy, node_at, IsForm, Tree, Address, LeadsToLeaf, nodes, inner, leaf, IsAddressOf, part_at, marks_on, AreWaypoints, rank_told, IsWaypoint, PathNode}
+use Rattle.policy_defs.specs.Policy.{Class as Aimed, Marks as Told}
 use Rattle.policy_core.specs.declared.parts.Class.{Class}
 use Rattle.policy_core.specs.declared.parts.Marks.{Marks}
-use Rattle.policy_core.specs.Numbering.{address_at, HasAt}
-use Rattle.policy_core.specs.Parts.{class_in, told}
-use Rattle.sched_core.specs.declared.path_node.PathNode.{PathNode}
-use Rattle.sched_core.specs.Kept.{part_at}
-use Rattle.sched_core.specs.Waypoints.{marks_on, rank_told, IsWaypoint, AreWaypoints}
 use Rattle.sched_core.proofs.TreeParts.{some-is, some-and, node-of_part}
 use Rattle.sched_core.proofs.FirstStates.{last-cases}
 use Rattle.sched_core.proofs.NodeSteps.{marks-of_class}

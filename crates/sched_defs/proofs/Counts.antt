@@ -1,9 +1,5 @@
 -- As many packets are queued as are in the leaves.
-use Rattle.std.proofs.Common.{◌≡◌, ℕ, ◌+◌, List, [], ◌∷◌, map, length, refl, arith, length-append}
-use Rattle.tree_defs.specs.Queue.{Queue}
-use Rattle.tree_defs.specs.Tree.{Tree, leaf, inner, Trees, none, more}
-use Rattle.tree_defs.specs.SourceTree.{size, sizes}
-use Rattle.tree_defs.specs.Packets.{values, values_below}
+use Rattle.sched_defs.proofs.Prelude.{◌≡◌, List, [], arith, ℕ, ◌∷◌, refl, ◌+◌, length, map, length-append, values, values_below, Queue, size, sizes, Tree, Trees, inner, leaf, more, none}
 
 length-values_of : (q : Queue) → length (map (λ (e : ℕ × ℕ). e.1) q) ≡ length q
 length-values_of [] = refl

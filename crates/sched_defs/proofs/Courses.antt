@@ -1,17 +1,5 @@
 -- The events of a script can be made, and are few.
-use Rattle.std.proofs.Common.{◌≡◌, ◌<◌, ◌≤◌, ℕ, zero, suc, ◌+◌, ◌-◌, List, [], ◌∷◌, ◌++◌, map, length, take, drop, replicate, Option, Some, None, refl, sym, ap, ◌∙◌, subst, arith, inl, inr}
-use Rattle.tree_defs.specs.Tree.{Popping}
-use Rattle.tree_defs.specs.SourceTree.{SourceTree, pop, size}
-use Rattle.sched_defs.specs.Faults.{FaultAt}
-use Rattle.packet_defs.specs.declared.packet.Packet.{Packet}
-use Rattle.policy_defs.specs.Policy.{Policy}
-use Rattle.policy_defs.specs.Accepted.{IsAccepted}
-use Rattle.sched_defs.specs.SourceState.{Held, SourceState, arrived, departed, left_from, left_with}
-use Rattle.sched_defs.specs.Sound.{IsSound}
-use Rattle.sched_defs.specs.Events.{Event, Arrive, Depart, Outcome, after, outcomes, pushed_in, dropped_in, asked_in, CanMake}
-use Rattle.sched_defs.specs.declared.ending.Ending.{Ending}
-use Rattle.sched_defs.specs.Script.{Step, Arrivals, Departures, Rest, Drain, Course, course, step_events, left_by, stop_at, stopped_or}
-use Rattle.sched_defs.specs.Numbered.{IsHeldBelow, CanBeSent, departures_asked}
+use Rattle.sched_defs.proofs.Prelude.{◌≡◌, List, [], arith, ℕ, ◌∷◌, Some, ap, refl, subst, sym, ◌+◌, length, suc, zero, Option, ◌++◌, ◌∙◌, None, ◌≤◌, ◌<◌, drop, inl, inr, map, replicate, ◌-◌, take, Packet, IsAccepted, Policy, size, pop, SourceTree, Popping, Depart, Event, after, outcomes, Arrive, CanMake, Outcome, dropped_in, pushed_in, asked_in, FaultAt, CanBeSent, IsHeldBelow, departures_asked, Arrivals, Course, Departures, Drain, Rest, Step, course, left_by, step_events, stop_at, stopped_or, IsSound, SourceState, departed, arrived, left_from, left_with, Held, Ending}
 use Rattle.sched_defs.specs.Laws.{IsCourseShort}
 use Rattle.sched_defs.proofs.Soundness.{with_packet-is, without-is, by_fullness, sound_departed}
 use Rattle.sched_defs.proofs.Runs.{AreArrivals, AreDepartures, sound_after, CanMake-departures, CanMake-joined, outcomes-append, pushed_in-append, popped_in-append, dropped_in-append, empty_in-append, none_lost, arrivals_count, departures_count}

@@ -1,17 +1,5 @@
 -- The state after a drain, and after a script that ends with one.
-use Rattle.std.proofs.Common.{◌≡◌, ℕ, ◌+◌, List, [], ◌∷◌, ◌++◌, length, replicate, Bool, true, false, Option, Some, None, if◌then◌else◌, sym, ap, subst, arith, nat_lt}
-use Rattle.std.proofs.lemmas.List.{append-nil}
-use Rattle.tree_defs.specs.SourceTree.{size}
-use Rattle.packet_defs.specs.declared.packet.Packet.{Packet}
-use Rattle.policy_defs.specs.Policy.{Policy}
-use Rattle.policy_defs.specs.Accepted.{IsAccepted}
-use Rattle.sched_defs.specs.SourceState.{SourceState}
-use Rattle.sched_defs.specs.Sound.{IsSound}
-use Rattle.sched_defs.specs.Events.{Event, Depart, after, outcomes}
-use Rattle.sched_defs.specs.Faults.{FaultAt}
-use Rattle.sched_defs.specs.Numbered.{CanBeSent}
-use Rattle.sched_defs.specs.Script.{Step, Arrivals, Departures, Rest, Drain, Course, course, step_events, left_by, missing, stop_at, stopped_or}
-use Rattle.sched_defs.specs.declared.ending.Ending.{Ending}
+use Rattle.sched_defs.proofs.Prelude.{◌≡◌, List, [], arith, ℕ, ◌∷◌, Some, ap, subst, sym, ◌+◌, length, Option, ◌++◌, None, false, Bool, true, if◌then◌else◌, replicate, append-nil, nat_lt, Packet, IsAccepted, Policy, size, Depart, Event, after, outcomes, FaultAt, CanBeSent, Arrivals, Course, Departures, Drain, Rest, Step, course, left_by, step_events, stop_at, stopped_or, missing, IsSound, SourceState, Ending}
 use Rattle.sched_defs.specs.declared.ending.Ending.TheVariants.{Whole}
 use Rattle.sched_defs.specs.Laws.{HoldsNothing, IsDrained, IsEachDrained}
 use Rattle.sched_defs.proofs.Leaving.{none_held}

@@ -1,24 +1,9 @@
 -- Arrivals and departures, and how many packets are queued.
-use Rattle.std.proofs.Common.{◌≡◌, ◌↔◌, ℕ, zero, suc, ◌+◌, ◌-◌, List, [], ◌∷◌, ◌++◌, max, length, Option, Some, None, IsSome, refl, sym, ap, ◌∙◌, subst, arith}
-use Rattle.std.specs.Prelude.{option_map}
-use Rattle.std.specs.List.{AllByRecursion}
+use Rattle.sched_defs.proofs.Prelude.{◌≡◌, List, [], arith, ℕ, ◌∷◌, Some, ap, refl, subst, sym, ◌+◌, length, suc, zero, Option, ◌++◌, ◌∙◌, None, max, ◌-◌, ◌↔◌, IsSome, AllByRecursion, option_map, Packet, IsAccepted, Policy, Node, Class, option_bind-some, option_map-some, values-packets, values, Placed, packets, Queue, size, pop, SourceTree, Address, Tree, Trees, inner, leaf, more, none, Popping, LeadsToLeaf, root_of, LeadsBelow, CanArrive, IsSound, IsAtItsLeaf, SourceState, departed, arrival_ranks, class_of, Leaver, leaver, left_from, left_with, pushed, way_in, leaving, visits_below, visits_from, rank_at}
 use Rattle.std.proofs.lemmas.List.{length-map}
-use Rattle.tree_defs.specs.Queue.{Queue}
-use Rattle.tree_defs.specs.Tree.{Tree, leaf, inner, Trees, none, more, Address, LeadsToLeaf, LeadsBelow, Popping, root_of}
-use Rattle.tree_defs.specs.SourceTree.{SourceTree, pop, size}
-use Rattle.tree_defs.specs.Packets.{Placed, values, packets}
 use Rattle.tree_defs.specs.Laws.{LedToALeaf}
-use Rattle.tree_defs.proofs.Options.{option_map-some, option_bind-some}
-use Rattle.tree_defs.proofs.PacketLaws.{values-packets}
 use Rattle.tree_defs.proofs.Shapes.{pop-path}
 use Rattle.tree_defs.proofs.WellFormedLaws.{size-push, size-pop, length-root, pop-none}
-use Rattle.packet_defs.specs.declared.packet.Packet.{Packet}
-use Rattle.policy_defs.specs.Policy.{Policy, Node, Class}
-use Rattle.policy_defs.specs.Accepted.{IsAccepted}
-use Rattle.sched_defs.specs.Visits.{visits_from, visits_below, rank_at}
-use Rattle.sched_defs.specs.SourceState.{SourceState, Leaver, class_of, way_in, arrival_ranks, pushed, left_with, left_from, departed, leaving, leaver}
-use Rattle.sched_defs.specs.Sound.{IsAtItsLeaf, IsSound}
-use Rattle.sched_defs.specs.Events.{CanArrive}
 use Rattle.sched_defs.specs.Laws.{AreNumbersOf, ArrivesAtALeaf, LeavesItsLeaf}
 use Rattle.sched_defs.proofs.Members.{IsIn, in_of, contains_of, same_length, all_at, all_mapped, all_over}
 use Rattle.sched_defs.proofs.Ranks.{HasLowRanks-pop}

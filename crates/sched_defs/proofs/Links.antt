@@ -1,18 +1,6 @@
 -- The events of a run that a link paces can be made: each packet arrives, and each departure takes
 -- one.
-use Rattle.std.proofs.Common.{◌≡◌, ◌<◌, ◌≤◌, ℕ, zero, suc, ◌+◌, max, Bool, true, false, Option, Some, None, List, [], ◌∷◌, ◌++◌, if◌then◌else◌, refl, sym, ap, ◌∙◌, subst, arith, inl, inr}
-use Rattle.std.proofs.lemmas.Bool.{ltb-true, ltb-false}
-use Rattle.std.specs.Option.{option_map_or}
-use Rattle.tree_defs.specs.SourceTree.{size}
-use Rattle.packet_defs.specs.declared.packet.Packet.{Packet}
-use Rattle.policy_defs.specs.Policy.{Policy}
-use Rattle.policy_defs.specs.Accepted.{IsAccepted}
-use Rattle.sched_defs.specs.SendTime.{send_time}
-use Rattle.sched_defs.specs.SourceState.{SourceState, Leaver, class_of, arrival_ranks, is_full, arrived, departed, leaver}
-use Rattle.sched_defs.specs.Sound.{IsSound}
-use Rattle.sched_defs.specs.Events.{Event, Arrive, Depart, Outcome, Arrived, Dropped, after, departure, outcome, outcomes, pushed_in, dropped_in, empty_in, CanArrive, CanMake}
-use Rattle.sched_defs.specs.Faults.{FaultAt}
-use Rattle.sched_defs.specs.Numbered.{IsHeldBelow, CanBeSent}
+use Rattle.sched_defs.proofs.Prelude.{◌≡◌, List, [], arith, ℕ, ◌∷◌, Some, ap, refl, subst, sym, ◌+◌, suc, zero, Option, ◌++◌, ◌∙◌, None, false, ◌≤◌, Bool, true, ◌<◌, if◌then◌else◌, inl, inr, max, ltb-false, ltb-true, option_map_or, Packet, IsAccepted, Policy, size, CanArrive, Depart, Event, after, outcomes, Arrive, CanMake, Outcome, dropped_in, pushed_in, Arrived, Dropped, departure, empty_in, outcome, FaultAt, CanBeSent, IsHeldBelow, send_time, IsSound, SourceState, departed, arrival_ranks, arrived, class_of, Leaver, is_full, leaver}
 use Rattle.sched_defs.specs.Laws.{IsLinkRun, IsSentBefore, IsSentBeforeEach}
 use Rattle.sched_defs.specs.Link.{Sent, sent_nothing, sent_first, is_due, send_until, send_due, send_all, link_turn, link_course}
 use Rattle.sched_defs.specs.declared.rate.LinkRate.{LinkRate}

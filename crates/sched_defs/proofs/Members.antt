@@ -1,9 +1,6 @@
 -- The elements of lists with one element added or removed.
-use Rattle.std.proofs.Common.{◌≡◌, ◌≢◌, ◌⊎◌, ℕ, zero, suc, ◌+◌, false, List, [], ◌∷◌, ◌++◌, map, length, nat_eq, refl, sym, ap, ◌∙◌, subst, arith, inl, inr}
-use Rattle.std.specs.List.{AllByRecursion, IsDistinct, Contains}
-use Rattle.std.proofs.lemmas.Bool.{eqb-false}
-use Rattle.tree_defs.specs.Packets.{OneMore}
-use Rattle.tree_defs.proofs.OneMoreLaws.{IsDistinct-taken}
+use Rattle.sched_defs.proofs.Prelude.{◌≡◌, List, [], arith, ℕ, ◌∷◌, ap, refl, subst, sym, ◌+◌, length, suc, zero, ◌++◌, ◌∙◌, false, inl, inr, map, ◌≢◌, nat_eq, ◌⊎◌, eqb-false, AllByRecursion, Contains, IsDistinct-taken, OneMore}
+use Rattle.std.specs.List.{IsDistinct}
 
 module _ {X : Type 0} where
   abbrev pub IsIn : X → List X → Type 0

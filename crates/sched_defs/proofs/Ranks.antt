@@ -1,16 +1,5 @@
 -- Ranks stay in range.
-use Rattle.std.proofs.Common.{◌≡◌, ◌≤◌, ℕ, zero, suc, ◌∷◌, [], List, Some, subst, arith}
-use Rattle.std.specs.Prelude.{option_map, slice_index, drop}
-use Rattle.std.specs.List.{AllByRecursion}
-use Rattle.tree_defs.specs.Queue.{Entry, Queue, put, Taking, take_least}
-use Rattle.tree_defs.specs.Tree.{Tree, leaf, inner, Trees, none, more, Popping}
-use Rattle.tree_defs.specs.Topology.{Topology}
-use Rattle.tree_defs.specs.SourceTree.{empty_tree, empty_trees, push, push_child, pop, pop_child, of_leaf, of_inner, of_first, of_later}
-use Rattle.tree_defs.proofs.Options.{option_map-some, option_bind-some}
-use Rattle.tree_defs.proofs.PacketLaws.{OneMore-put, OneMore-taken}
-use Rattle.tree_defs.proofs.OneMoreLaws.{All-added, All-taken}
-use Rattle.rank_defs.specs.Programs.{max_rank}
-use Rattle.sched_defs.specs.Sound.{HasRanks, HasLowRanks, HaveLowRanks}
+use Rattle.sched_defs.proofs.Prelude.{◌≡◌, List, [], arith, ℕ, ◌∷◌, Some, subst, suc, zero, ◌≤◌, drop, AllByRecursion, slice_index, option_map, max_rank, All-added, All-taken, option_bind-some, option_map-some, OneMore-put, OneMore-taken, Queue, Taking, put, take_least, Entry, pop, empty_tree, empty_trees, push, of_first, of_inner, of_later, of_leaf, pop_child, push_child, Topology, Tree, Trees, inner, leaf, more, none, Popping, HasLowRanks, HasRanks, HaveLowRanks}
 
 abbrev pub AreLow : List ℕ → Type 0
 AreLow ranks = AllByRecursion (λ r. r ≤ max_rank) ranks

@@ -1,13 +1,5 @@
 -- Events in a row.
-use Rattle.std.proofs.Common.{◌≡◌, ◌≢◌, ◌↔◌, ℕ, Bool, true, false, Option, None, Some, zero, suc, ◌+◌, List, [], ◌∷◌, ◌++◌, map, length, replicate, if◌then◌else◌, refl, sym, ap, subst, arith}
-use Rattle.packet_defs.specs.declared.packet.Packet.{Packet}
-use Rattle.tree_defs.specs.Tree.{Address}
-use Rattle.tree_defs.specs.SourceTree.{size}
-use Rattle.policy_defs.specs.Policy.{Policy, limit_at}
-use Rattle.policy_defs.specs.Accepted.{IsAccepted}
-use Rattle.sched_defs.specs.SourceState.{SourceState, Leaver, class_of, arrival_ranks, is_full, dropped, pushed, arrived, departed, leaver}
-use Rattle.sched_defs.specs.Sound.{IsSound}
-use Rattle.sched_defs.specs.Events.{Event, Arrive, Depart, Outcome, Arrived, Departed, Dropped, Empty, step, after, departure, outcome, outcomes, pushed_in, popped_in, dropped_in, empty_in, asked_in, CanArrive, CanMake}
+use Rattle.sched_defs.proofs.Prelude.{◌≡◌, List, [], arith, ℕ, ◌∷◌, Some, ap, refl, subst, sym, ◌+◌, length, suc, zero, Option, ◌++◌, None, false, Bool, true, if◌then◌else◌, map, replicate, ◌≢◌, ◌↔◌, Packet, IsAccepted, Policy, limit_at, size, Address, CanArrive, Depart, Event, after, outcomes, Arrive, CanMake, Outcome, dropped_in, pushed_in, Arrived, Dropped, asked_in, departure, empty_in, outcome, Departed, Empty, popped_in, step, IsSound, SourceState, departed, arrival_ranks, arrived, class_of, Leaver, is_full, leaver, pushed, dropped}
 use Rattle.sched_defs.proofs.Soundness.{sound_arrived, sound_departed}
 use Rattle.sched_defs.proofs.Leaving.{size_pushed, size_departed, leaver-none}
 

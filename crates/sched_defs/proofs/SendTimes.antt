@@ -1,8 +1,7 @@
 -- The send time is the least that suffices.
-use Rattle.std.proofs.Common.{◌≡◌, ◌+◌, ◌*◌, ◌<◌, arith}
+use Rattle.sched_defs.proofs.Prelude.{◌≡◌, arith, ◌+◌, ◌<◌, ◌*◌, send_time, SendTimeIsLeast}
 use Rattle.std.proofs.Math.Nat.{lt_of_mul-lt-mul_right}
 use Rattle.std.proofs.lemmas.Grind.{div_ceil_times}
-use Rattle.sched_defs.specs.SendTime.{send_time, SendTimeIsLeast}
 
 pub send_time-least : SendTimeIsLeast
 send_time-least len rate is =

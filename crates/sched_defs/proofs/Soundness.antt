@@ -1,25 +1,10 @@
 -- Arrivals and departures keep a state sound.
-use Rattle.std.proofs.Common.{◌≡◌, ◌≢◌, ◌≤◌, ◌<◌, ◌⊎◌, ℕ, zero, suc, ◌+◌, Bool, true, false, nat_eq, max, List, [], ◌∷◌, length, drop, slice_index, IfSome, Option, Some, None, refl, sym, ap, ◌∙◌, subst, arith, inl, inr, ne_eqb, eq-eqb, if◌then◌else◌}
-use Rattle.std.specs.List.{AllByRecursion, IsDistinct, Contains}
-use Rattle.std.proofs.lemmas.Bool.{eqb-false}
+use Rattle.sched_defs.proofs.Prelude.{◌≡◌, List, [], arith, ℕ, ◌∷◌, Some, ap, refl, subst, sym, ◌+◌, length, suc, zero, Option, ◌∙◌, None, false, ◌≤◌, Bool, true, ◌<◌, drop, if◌then◌else◌, inl, inr, max, ◌≢◌, nat_eq, ◌⊎◌, IfSome, eq-eqb, ne_eqb, eqb-false, AllByRecursion, Contains, slice_index, Packet, IsAccepted, IsClassReady, Policy, limit_at, no_marks, max_rank, All-added, All-taken, IsDistinct-taken, IsDistinct-added, IsOther, values-packets, packets-empty, packets-pop, packets-push, queue_at-pop, queue_at-pop_elsewhere, queue_at-push, queue_at-push_elsewhere, values-empty, values-pop, values-push, values, Placed, packets, queue_at, queue_in, Queue, Taking, put, take_least, take_from, pop, SourceTree, empty_tree, empty_trees, push, Topology, topology_of, Address, Trees, inner, leaf, more, none, Popping, LeadsToLeaf, CanArrive, IsSound, IsAtItsLeaf, IsKnown, SourceState, departed, arrival_ranks, arrived, class_of, is_full, left_from, left_with, pushed, Held, dropped, way_in, filled, is_reached, start, way_out, with_packet, without}
+use Rattle.std.specs.List.{IsDistinct}
 use Rattle.std.proofs.lemmas.Bool.Decides.{Decides-eqb}
-use Rattle.tree_defs.specs.Queue.{Queue, put, take_least, take_from, Taking}
 use Rattle.tree_defs.proofs.TakeLeast.{length-put, length-rest}
-use Rattle.tree_defs.specs.Tree.{leaf, inner, Trees, none, more, Address, LeadsToLeaf, Popping}
-use Rattle.tree_defs.specs.Topology.{Topology, topology_of}
-use Rattle.tree_defs.specs.SourceTree.{SourceTree, push, pop, empty_tree, empty_trees}
-use Rattle.tree_defs.specs.Packets.{Placed, values, packets, queue_at, queue_in}
 use Rattle.tree_defs.proofs.Shapes.{topology_of-same, same_shape, topology_of-empty, topology_of-push, topology_of-pop, LeadsToLeaf-topology}
 use Rattle.tree_defs.proofs.WellFormedLaws.{IsWellFormed-push, IsWellFormed-pop, IsWellFormed-empty}
-use Rattle.tree_defs.proofs.PacketLaws.{values-packets, packets-push, packets-pop, values-push, values-pop, packets-empty, values-empty, queue_at-push, queue_at-push_elsewhere, queue_at-pop, queue_at-pop_elsewhere}
-use Rattle.tree_defs.proofs.OneMoreLaws.{IsOther, All-added, All-taken, IsDistinct-added, IsDistinct-taken}
-use Rattle.rank_defs.specs.Programs.{max_rank}
-use Rattle.packet_defs.specs.declared.packet.Packet.{Packet}
-use Rattle.policy_defs.specs.Policy.{Policy, no_marks, limit_at}
-use Rattle.policy_defs.specs.Accepted.{IsAccepted, IsClassReady}
-use Rattle.sched_defs.specs.SourceState.{Held, SourceState, start, class_of, way_in, way_out, arrival_ranks, filled, is_reached, is_full, dropped, pushed, arrived, left_with, left_from, departed, with_packet, without}
-use Rattle.sched_defs.specs.Sound.{IsKnown, IsAtItsLeaf, IsSound}
-use Rattle.sched_defs.specs.Events.{CanArrive}
 use Rattle.sched_defs.proofs.Members.{all_mapped, all_over, all_unmapped, all_joined, Contains-with, Contains-added, Contains-without}
 use Rattle.sched_defs.proofs.Ranks.{AreLow, IsLowPopping, HasLowRanks-push, HasLowRanks-pop, HasLowRanks-empty}
 use Rattle.sched_defs.proofs.Visits.{IsVisitTo, visits_from-are, class_ready}

@@ -1,21 +1,12 @@
 -- Steps on the path keep each variable in its range, and give ranks in range.
-use Rattle.std.proofs.Common.{◌≡◌, ◌≤◌, ℕ, Bool, true, false, List, [], ◌∷◌, Option, Some, refl, sym, ap, ◌∙◌, subst, bytes_eq}
-use Rattle.std.specs.Prelude.{slice_index, drop}
-use Rattle.std.specs.List.{AllByRecursion}
+use Rattle.sched_defs.proofs.Prelude.{◌≡◌, List, [], ℕ, ◌∷◌, Some, ap, refl, subst, sym, Option, ◌∙◌, false, ◌≤◌, Bool, true, drop, bytes_eq, AllByRecursion, option_map_or, slice_index, IsNodeReady, Node, node_at, max_rank, Program, Address, Tree, first_states, no_state, Visit, States, after_pops, after_pushes, ranks_pushed, with_state}
 use Rattle.std.proofs.lemmas.Slice.Eq.{bytes_eq-Decides}
-use Rattle.tree_defs.specs.Tree.{Tree, Address}
-use Rattle.rank_defs.specs.Programs.{Program, max_rank}
 use Rattle.rank_defs.specs.States.{State, first_state}
 use Rattle.rank_defs.specs.Shapes.{IsStateInRange}
 use Rattle.rank_defs.specs.Tame.{IsSafePush, IsSafePop}
 use Rattle.rank_defs.proofs.SafeSteps.{safe_push, safe_pop, first_state-in_range}
-use Rattle.policy_defs.specs.Policy.{Node, node_at}
-use Rattle.policy_defs.specs.Accepted.{IsNodeReady}
-use Rattle.sched_defs.specs.Visits.{States, Visit, with_state, ranks_pushed, after_pushes, after_pops}
-use Rattle.sched_defs.specs.SourceState.{first_states, no_state}
 use Rattle.sched_defs.proofs.Visits.{IsVisitTo}
 use Rattle.sched_defs.proofs.Ranks.{AreLow, first_low, rest_low}
-use Rattle.std.specs.Option.{option_map_or}
 
 -- each variable of each node is in its range
 abbrev pub AreStatesInRange : Tree Node → States → Type 0

@@ -1,15 +1,6 @@
 -- The nodes on the path are the policy's, and the inputs of their steps are in range.
-use Rattle.std.proofs.Common.{◌≡◌, ◌≤◌, ◌<◌, ℕ, zero, suc, List, [], ◌∷◌, ◌++◌, length, Some, refl, sym, ap, ◌∙◌, arith, slice_get}
-use Rattle.std.specs.Prelude.{unwrap_or}
-use Rattle.std.specs.List.{AllByRecursion}
-use Rattle.std.proofs.Common.{append_assoc, append-nil}
-use Rattle.tree_defs.specs.Tree.{Tree, leaf, inner, Trees, none, more, Address, root_of}
-use Rattle.rank_defs.specs.Programs.{max_rank}
+use Rattle.sched_defs.proofs.Prelude.{◌≡◌, List, [], arith, ℕ, ◌∷◌, Some, ap, refl, sym, length, suc, zero, ◌++◌, ◌∙◌, ◌≤◌, ◌<◌, append-nil, append_assoc, slice_get, AllByRecursion, unwrap_or, Packet, IsNodeReady, AreMarksInRange, Node, Class, no_marks, node_at, Marks, node_below, max_rank, Address, Tree, Trees, inner, leaf, more, none, root_of, Visit, visits_below, visits_from, child_marks, env_for}
 use Rattle.rank_defs.specs.Shapes.{IsEnvInRange, max_len}
-use Rattle.packet_defs.specs.declared.packet.Packet.{Packet}
-use Rattle.policy_defs.specs.Policy.{Marks, no_marks, Node, Class, node_at, node_below}
-use Rattle.policy_defs.specs.Accepted.{AreMarksInRange, IsNodeReady}
-use Rattle.sched_defs.specs.Visits.{Visit, env_for, child_marks, visits_from, visits_below}
 
 -- a visit to a node of the tree, with numbers in range
 pub record IsVisitTo (root : Tree Node) (v : Visit) : Type 0 where

@@ -1,16 +1,7 @@
 -- Lanes to the leaves of classes, one by one.
-use Rattle.std.proofs.Common.{◌≡◌, ℕ, zero, suc, ◌<◌, List, [], ◌∷◌, ◌++◌, length, get_or, map, Some, sym, ap, ◌∙◌, subst, arith}
-use Rattle.std.proofs.lemmas.List.{get_or-map, length-map}
+use Rattle.sched_embedded.proofs.Prelude.{sym, ℕ, ◌∙◌, ap, ◌≡◌, subst, List, arith, length, Some, [], suc, ◌∷◌, zero, map, ◌++◌, ◌<◌, get_or, length-map, get_or-map, AllByRecursion, slice_get, unwrap_or, AreLeafLanes, LiftedPath, Policy, Class, Node, no_marks, topology_of, Address, Tree, LeadsToLeaf, SameShape, leaf_of, HasLanes}
 use Rattle.std.proofs.lemmas.Option.{unwrap_or-slice_get}
-use Rattle.std.specs.Prelude.{slice_get, unwrap_or}
-use Rattle.std.specs.List.{AllByRecursion}
-use Rattle.tree_defs.specs.Tree.{Tree, Address, LeadsToLeaf, SameShape}
-use Rattle.tree_defs.specs.Topology.{topology_of}
-use Rattle.policy_defs.specs.Policy.{Policy, Node, Class, no_marks}
 use Rattle.policy_defs.specs.Accepted.{IsAccepted, IsClassReady}
-use Rattle.embed_core.specs.declared.lifted_path.LiftedPath.{LiftedPath}
-use Rattle.embed_core.specs.Lanes.{AreLeafLanes}
-use Rattle.sched_embedded.specs.Laid.{leaf_of, HasLanes}
 use Rattle.sched_embedded.proofs.MapShapes.{same_leaves, topology-same}
 
 -- a property of each lane holds with one more lane

@@ -1,18 +1,7 @@
 -- The packet that departs, if the source tree is known to give it.
-use Rattle.std.proofs.Common.{◌≡◌, ℕ, List, None, Some, refl, sym, ap, ◌∙◌}
-use Rattle.std.specs.Prelude.{IfSome}
-use Rattle.tree_defs.specs.SourceTree.{size}
-use Rattle.tree_core.specs.Paths.{Way}
-use Rattle.embed_defs.specs.Family.{Family}
-use Rattle.packet_defs.specs.declared.packet.Packet.{Packet}
-use Rattle.policy_defs.specs.Policy.{Policy}
-use Rattle.sched_defs.specs.SourceState.{SourceState, departed, leaver}
-use Rattle.sched_defs.specs.Sound.{IsSound}
-use Rattle.sched_defs.proofs.Leaving.{pop_size}
+use Rattle.sched_embedded.proofs.Prelude.{sym, ℕ, ◌∙◌, ap, ◌≡◌, List, Some, refl, None, IfSome, Family, Packet, Policy, PopsNext, pop_size, IsSound, SourceState, departed, leaver, Way, size, Laid, PopsTo}
 use Rattle.sched_core.specs.Departures.{IsTaken}
-use Rattle.sched_core.specs.PolicyState.{PopsNext}
 use Rattle.sched_core.proofs.PoppedPackets.{is_held, leaver-popped, departed-popped, taken}
-use Rattle.sched_embedded.specs.Laid.{Laid, PopsTo}
 
 module _ (policy : Policy) (s : SourceState) (sound : IsSound policy s) (l : Laid) (number : ℕ) (way : Way) (queues : Family) (p : PopsTo l s.tree number way queues) where
   pub next : (digits ranks : List ℕ) → digits ≡ way.digits → ranks ≡ way.ranks → PopsNext s number digits ranks

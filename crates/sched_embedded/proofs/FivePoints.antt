@@ -1,7 +1,6 @@
 -- A scheduler's counts of its packets follow from its queued packets.
-use Rattle.std.proofs.Common.{◌≡◌, ℕ, Some, ap, sym, ◌∙◌, arith}
+use Rattle.sched_embedded.proofs.Prelude.{sym, ℕ, ◌∙◌, ap, ◌≡◌, arith, Some, policy_in}
 use Rattle.fabric_core.specs.declared.fabric.Fabric.{Ghosts}
-use Rattle.sched_core.specs.PolicyState.{policy_in}
 use Rattle.sched_embedded.specs.Embedded.{EmbeddedStands, HasFivePoints, FivePointsStand}
 use Rattle.sched_embedded.proofs.LeafCounts.{same_filled, same_size}
 

@@ -1,20 +1,11 @@
 -- How many packets are at a leaf, by the queued packets.
-use Rattle.std.proofs.Common.{◌≡◌, ◌⊎◌, ◌↔◌, ℕ, zero, suc, ◌+◌, false, List, [], ◌∷◌, ◌++◌, map, nat_eq, Option, Some, IsSome, refl, sym, ap, ◌∙◌, subst, arith, inl, inr}
-use Rattle.std.specs.List.{AllByRecursion, IsDistinct, Contains}
-use Rattle.std.proofs.lemmas.List.{length-map}
-use Rattle.tree_defs.specs.Queue.{Queue}
-use Rattle.tree_defs.specs.Tree.{Tree, leaf, inner, Trees, none, more, Address}
-use Rattle.tree_defs.specs.SourceTree.{size}
+use Rattle.sched_embedded.proofs.Prelude.{sym, ℕ, ◌∙◌, ap, ◌≡◌, subst, List, arith, Some, [], refl, suc, ◌∷◌, zero, ◌+◌, Option, map, ◌++◌, false, IsSome, inl, inr, nat_eq, ◌↔◌, ◌⊎◌, length-map, AllByRecursion, Contains, Packet, Policy, held_count, values_are_numbers, IsSound, IsAtItsLeaf, SourceState, class_of, filled, Queue, size, Address, Tree, Trees, inner, leaf, more, none}
+use Rattle.std.specs.List.{IsDistinct}
 use Rattle.tree_defs.specs.Packets.{Placed, below, values, values_below, packets, packets_below, queue_at, queue_in}
 use Rattle.tree_defs.proofs.PacketLaws.{values-packets}
-use Rattle.packet_defs.specs.declared.packet.Packet.{Packet}
-use Rattle.policy_defs.specs.Policy.{Policy}
-use Rattle.sched_defs.specs.SourceState.{SourceState, class_of, filled}
-use Rattle.sched_defs.specs.Sound.{IsAtItsLeaf, IsSound}
 use Rattle.sched_defs.specs.Laws.{AreNumbersOf}
 use Rattle.sched_defs.proofs.Members.{IsIn, in_of, same_length, all_at}
 use Rattle.sched_defs.proofs.Counts.{length-values}
-use Rattle.sched_defs.proofs.Leaving.{values_are_numbers, held_count}
 use Rattle.sched_defs.proofs.Soundness.{same_packet}
 
 -- the numbers of the packets at a leaf

@@ -1,3 +1,4 @@
+pub mod Prelude
 pub mod MapShapes
 pub mod LowRanks
 pub mod LiftMoves

@@ -1,25 +1,11 @@
 -- The effect of a push and a pop of the fabric on the source tree whose lift its queues are.
-use Rattle.std.proofs.Common.{◌≡◌, ℕ, zero, suc, List, [], length, Option, None, Some, refl, sym, ap, ◌∙◌, subst}
-use Rattle.tree_defs.specs.Queue.{Queue}
-use Rattle.tree_defs.specs.Tree.{Tree, Address, Popping, LeadsToLeaf, IsAddressOf}
-use Rattle.tree_defs.specs.SourceTree.{SourceTree, push, pop}
+use Rattle.sched_embedded.proofs.Prelude.{sym, ℕ, ◌∙◌, ap, ◌≡◌, subst, List, length, Some, [], refl, suc, None, zero, Option, IsLeafImage, Family, Pops, push_along, SameQueues, pop_along, IsGoodMap, image_map, IsLift, lift_ranks, picked_ranks, StandsAt, push_spills, spills_along, Way, topology_of-same, pop-path, leaf_at, Queue, SourceTree, pop, push, Address, Tree, LeadsToLeaf, IsAddressOf, Popping, Laid, HoldsLift, PopsTo}
 use Rattle.tree_defs.specs.Laws.{LedToALeaf}
-use Rattle.tree_defs.proofs.Shapes.{topology_of-same, pop-path}
-use Rattle.tree_defs.proofs.TopologyLaws.{leaf_at}
 use Rattle.tree_defs.proofs.WellFormedLaws.{IsWellFormed-push, IsWellFormed-pop}
-use Rattle.tree_core.specs.Paths.{Way}
-use Rattle.embed_defs.specs.Family.{Family, SameQueues, Pops, push_along, pop_along}
-use Rattle.embed_defs.specs.Spills.{spills_along}
-use Rattle.embed_defs.specs.Images.{image_map}
-use Rattle.embed_defs.specs.Lift.{IsLift, StandsAt, lift_ranks, picked_ranks}
-use Rattle.embed_defs.specs.Spilling.{push_spills}
-use Rattle.embed_defs.specs.GoodMaps.{IsGoodMap}
 use Rattle.embed_defs.specs.LiftLaws.{Maps, IsLiftedPop, PopsAsTheTree}
 use Rattle.embed_defs.proofs.LiftLawProofs.{lifts_are_one, pushes_of_lifts_are_lifts, pops_of_lifts_are_lifted_pops, maps_stay}
 use Rattle.embed_defs.proofs.SpillsOfLifts.{spills_of_lifts}
 use Rattle.embed_defs.proofs.PathsReadBack.{nodes_have_images_of_their_own, picked_ranks_are_those_lifted}
-use Rattle.embed_core.specs.Picks.{IsLeafImage}
-use Rattle.sched_embedded.specs.Laid.{Laid, HoldsLift, PopsTo}
 use Rattle.sched_embedded.proofs.MapShapes.{same_leaves}
 
 -- nothing is popped if the root's queue is empty

@@ -1,9 +1,5 @@
 -- Lifted ranks are at most the ranks that are lifted.
-use Rattle.std.proofs.Common.{ℕ, zero, suc, ◌-◌, ◌≤◌, List, [], ◌∷◌, ◌++◌, length, replicate, drop, arith}
-use Rattle.std.specs.Prelude.{slice_index}
-use Rattle.tree_defs.specs.Tree.{Tree, leaf, inner, Trees, none, more, Address, root_of}
-use Rattle.embed_defs.specs.Family.{AreRanks}
-use Rattle.embed_defs.specs.Lift.{lift_ranks, lift_ranks_below}
+use Rattle.sched_embedded.proofs.Prelude.{ℕ, List, arith, length, [], suc, ◌∷◌, zero, ◌++◌, drop, replicate, ◌-◌, ◌≤◌, slice_index, AreRanks, lift_ranks, lift_ranks_below, Address, Tree, Trees, inner, leaf, more, none, root_of}
 
 first-low : (ranks : List ℕ) → AreRanks ranks → slice_index ranks 0 ≤ 4611686018427387903
 first-low [] low = omega arith

@@ -1,22 +1,8 @@
 -- A tree and its map have the same leaves, and the leaves of an embedding are those of the target.
-use Rattle.std.proofs.Common.{◌≡◌, ℕ, suc, List, [], ◌∷◌, length, None, Some, refl, sym, ap, ◌∙◌, subst, arith}
-use Rattle.std.specs.Prelude.{option_map}
-use Rattle.tree_defs.specs.Tree.{Tree, leaf, inner, Trees, none, more, Address, LeadsToLeaf, SameShape, depth, root_of}
-use Rattle.tree_defs.specs.Topology.{Topology, topology_of, topologies_of, complete, IsWithin}
-use Rattle.tree_defs.proofs.Shapes.{topology_of-same, topology_of-empty, same_shape, LeadsToLeaf-topology, depth-topology}
-use Rattle.tree_defs.proofs.TopologyLaws.{leaf_at, deep_leaf}
-use Rattle.tree_defs.specs.SourceTree.{empty_tree}
-use Rattle.embed_defs.specs.Family.{Family, IsEmpty, IsLeafAddress}
-use Rattle.embed_defs.specs.Images.{image_at, image_map}
+use Rattle.sched_embedded.proofs.Prelude.{sym, ℕ, ◌∙◌, ap, ◌≡◌, subst, List, arith, length, Some, [], refl, suc, ◌∷◌, None, option_map, Family, IsLeafAddress, IsEmpty, IsGoodMap, image_map, image_at, IsLift, Policy, IsSound, SourceState, topology_of-same, LeadsToLeaf-topology, depth-topology, same_shape, topology_of-empty, leaf_at, deep_leaf, empty_tree, topology_of, IsWithin, Topology, complete, topologies_of, Address, Tree, LeadsToLeaf, Trees, inner, leaf, more, none, SameShape, root_of, depth, Laid, HoldsLift, IsLaid}
 use Rattle.embed_defs.specs.Embedding.{IsEmbedding}
-use Rattle.embed_defs.specs.Lift.{IsLift}
-use Rattle.embed_defs.specs.GoodMaps.{IsGoodMap}
 use Rattle.embed_defs.proofs.LiftLawProofs.{empty_trees_have_empty_lifts}
 use Rattle.embed_defs.proofs.EmbeddedMaps.{embeddings_are_good_maps}
-use Rattle.policy_defs.specs.Policy.{Policy}
-use Rattle.sched_defs.specs.SourceState.{SourceState}
-use Rattle.sched_defs.specs.Sound.{IsSound}
-use Rattle.sched_embedded.specs.Laid.{Laid, IsLaid, HoldsLift}
 
 pub same_leaves : {Q R : Type 0} (t : Tree Q) (u : Tree R) (a : Address) → topology_of t ≡ topology_of u → LeadsToLeaf t a → LeadsToLeaf u a
 same_leaves t u a e l = subst (λ (A : Type 0). A) (LeadsToLeaf-topology t a ∙ ap (λ (z : Topology). LeadsToLeaf z a) e ∙ sym (LeadsToLeaf-topology u a)) l

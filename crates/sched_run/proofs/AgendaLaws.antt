@@ -1,25 +1,5 @@
 -- The part of an agenda that was made, and the part still to come.
-use Rattle.std.proofs.Common.{◌≡◌, ◌≤◌, ◌^◌, ℕ, ◌+◌, Bool, false, Option, None, Some, List, [], ◌++◌, refl, sym, ap, ◌∙◌, subst, arith, append_assoc, append-nil}
-use Rattle.std.specs.Prelude.{IfSome}
-use Rattle.tree_defs.specs.SourceTree.{size}
-use Rattle.policy_defs.specs.Policy.{Policy}
-use Rattle.policy_defs.specs.Accepted.{IsAccepted}
-use Rattle.sched_defs.specs.SourceState.{SourceState}
-use Rattle.sched_defs.specs.Sound.{IsSound}
-use Rattle.sched_defs.specs.Events.{Event, after, outcomes, empty_in}
-use Rattle.sched_defs.specs.Script.{Course, behind}
-use Rattle.sched_defs.specs.Numbered.{IsHeldBelow}
-use Rattle.sched_defs.specs.Packets.{Left}
-use Rattle.sched_defs.specs.declared.ending.Ending.{Ending}
-use Rattle.sched_defs.proofs.Runs.{after-append, none_lost}
-use Rattle.sched_core.specs.declared.scheduler.Scheduler.{Ghosts}
-use Rattle.sched_run.specs.Recording.{AreJoined, Recordings}
-use Rattle.sched_core.specs.Standing.{StandForOne}
-use Rattle.tap_core.specs.Watching.{Sight}
-use Rattle.sched_run.specs.declared.tally.Tally.{Tally}
-use Rattle.sched_run.specs.Stages.{Stage, stage, event_of, arrivals_in, FromEach, IsFresh, CanBegin, IsReady, HasRoom, Makes}
-use Rattle.sched_run.specs.Turns.{AreFirst, StopsAmid}
-use Rattle.sched_run.specs.Courses.{Agenda, IsCourse, Courses, CoursesFirst, CoursesAmid}
+use Rattle.sched_run.proofs.Prelude.{ℕ, arith, None, ◌∙◌, ◌≡◌, refl, sym, List, subst, [], ◌+◌, ap, Some, ◌≤◌, Option, ◌++◌, append-nil, false, Bool, append_assoc, ◌^◌, IfSome, IsAccepted, Policy, StandForOne, Ghosts, none_lost, after-append, Event, outcomes, after, empty_in, IsHeldBelow, Left, Course, behind, IsSound, SourceState, Ending, Sight, size, Courses, IsCourse, Agenda, CoursesAmid, CoursesFirst, Recordings, AreJoined, Makes, Stage, event_of, arrivals_in, FromEach, stage, CanBegin, IsFresh, HasRoom, IsReady, StopsAmid, AreFirst, Tally}
 use Rattle.sched_run.proofs.MadeEvents.{Stands, can_make, stands_after, makes_none, makes_both, makes_then_last, stops_here, stops_none, stops_later, stops_at_last, stops_then_last}
 use Rattle.sched_run.proofs.PacketsInTurn.{room_after}
 use Rattle.sched_run.proofs.EventCounts.{AreOf, outcomes_of, outcomes_both}

@@ -1,23 +1,10 @@
 -- The course of a script, step by step.
-use Rattle.std.proofs.Common.{◌≡◌, ℕ, ◌+◌, Option, None, Some, List, [], ◌∷◌, ◌++◌, map, length, refl, sym, ap, ◌∙◌, subst, arith, append_assoc, append-nil}
-use Rattle.std.specs.Prelude.{IfSome}
-use Rattle.policy_defs.specs.Policy.{Policy}
-use Rattle.sched_defs.specs.SourceState.{SourceState}
-use Rattle.sched_defs.specs.Events.{Event, after}
-use Rattle.sched_defs.specs.Script.{Step, Course, course, behind, stopped_or, step_events, left_by, stop_at, at_end}
-use Rattle.sched_defs.specs.Packets.{Left}
-use Rattle.sched_defs.specs.declared.ending.Ending.{Ending}
-use Rattle.sched_core.specs.declared.scheduler.Scheduler.{Ghosts}
+use Rattle.sched_run.proofs.Prelude.{ℕ, arith, None, ◌∙◌, ◌≡◌, refl, sym, List, subst, [], ◌+◌, ap, Some, Option, ◌++◌, ◌∷◌, length, append-nil, append_assoc, map, IfSome, counts_of, count_of, Policy, Ghosts, Event, after, Left, Course, Step, behind, left_by, step_events, stop_at, at_end, course, stopped_or, SourceState, Ending, Courses, IsCourse, script_agenda, Recordings, Stage, event_of, FromEach, StopsAmid, AreFirst, Turns, IsTurn}
 use Rattle.events_core.specs.declared.step.Step as line
 use Rattle.events_core.specs.declared.step.Step.TheVariants as line_step
-use Rattle.events_core.specs.Steps.{count_of, counts_of}
 use Rattle.sched_run.specs.Steps.{step_of, asked_by}
-use Rattle.sched_run.specs.Stages.{Stage, event_of, FromEach}
-use Rattle.sched_run.specs.Turns.{IsTurn, Turns, AreFirst, StopsAmid}
-use Rattle.sched_run.specs.Courses.{script_agenda, IsCourse, Courses}
 use Rattle.sched_run.proofs.MadeEvents.{length-events}
 use Rattle.sched_run.proofs.AgendaLaws.{IsBehind, HasRun}
-use Rattle.sched_run.specs.Recording.{Recordings}
 
 -- ---- the course of a step and those after it
 module _ (policy : Policy) (step : Step) (steps : List Step) (l : Left) (s : SourceState) (event : ℕ) where

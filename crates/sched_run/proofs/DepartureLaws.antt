@@ -1,15 +1,5 @@
 -- The result of a departure that is recorded.
-use Rattle.std.proofs.Common.{◌≡◌, Option, Some, None, sym, ◌∙◌, subst}
-use Rattle.std.specs.Prelude.{◌↔◌, Result, IsNone, IfOk, IfSome, IfNone, option_map}
-use Rattle.std.proofs.lemmas.Result.{IfOk-weaker}
-use Rattle.tree_defs.specs.SourceTree.{size}
-use Rattle.tree_core.specs.Paths.{Way}
-use Rattle.packet_defs.specs.declared.packet.Departed.{Departed}
-use Rattle.sched_defs.specs.SourceState.{departed, leaver}
-use Rattle.sched_core.specs.declared.scheduler.Scheduler.{Ghosts}
-use Rattle.sched_core.specs.Standing.{ForEachState}
-use Rattle.sched_core.specs.Departures.{departed_packet, next_departed, IsTaken}
-use Rattle.sched_run.specs.Played.{AsksOnce, Departs}
+use Rattle.sched_run.proofs.Prelude.{None, ◌∙◌, ◌≡◌, sym, subst, Some, Option, IfOk-weaker, IfSome, option_map, IfOk, Result, IfNone, IsNone, ◌↔◌, Departed, departed_packet, IsTaken, next_departed, ForEachState, Ghosts, departed, leaver, Way, size, AsksOnce, Departs}
 
 -- what holds if no packet departed holds if none was to depart
 if_none_left : {A B : Type 0} (P : Type 0) (f : A → B) (d : Option B) (o : Option A) → d ≡ option_map f o → IfNone d P → IfNone o P

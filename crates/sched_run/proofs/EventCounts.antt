@@ -1,19 +1,8 @@
 -- The numbers of packets that arrive, are pushed, dropped and popped, and of departures that find
 -- none.
-use Rattle.std.proofs.Common.{◌≡◌, ◌≤◌, ℕ, Bool, true, false, zero, suc, ◌+◌, Option, None, Some, Ok, List, [], ◌∷◌, ◌++◌, map, length, replicate, if◌then◌else◌, refl, ap, ◌∙◌, arith}
-use Rattle.tree_defs.specs.SourceTree.{size}
-use Rattle.packet_defs.specs.declared.packet.Packet.{Packet}
-use Rattle.policy_defs.specs.Policy.{Policy}
-use Rattle.policy_defs.specs.Accepted.{IsAccepted}
-use Rattle.sched_defs.specs.SourceState.{SourceState, Leaver, class_of, arrival_ranks, is_full, arrived, departed, leaver}
-use Rattle.sched_defs.specs.Sound.{IsSound}
-use Rattle.sched_defs.specs.Events.{Event, Arrive, Depart, Outcome, Arrived, Dropped, after, departure, outcomes, pushed_in, dropped_in, empty_in, asked_in}
-use Rattle.sched_defs.proofs.Runs.{AreDepartures, CanMake-departures, outcomes-append, pushed_in-append, popped_in-append, dropped_in-append, empty_in-append, none_lost, departures_count}
-use Rattle.sched_defs.proofs.Courses.{size_departures}
-use Rattle.sched_core.specs.Arrivals.{leaf_number, arrival_of, pushes_of}
-use Rattle.sched_core.specs.declared.scheduler.Arrival.{Arrival}
+use Rattle.sched_run.proofs.Prelude.{ℕ, arith, None, ◌∙◌, ◌≡◌, refl, List, [], ◌+◌, ap, Some, ◌≤◌, Option, ◌++◌, ◌∷◌, length, false, replicate, Bool, map, suc, true, if◌then◌else◌, zero, Ok, Packet, IsAccepted, Policy, arrival_of, leaf_number, pushes_of, Arrival, size_departures, none_lost, outcomes-append, departures_count, CanMake-departures, empty_in-append, AreDepartures, dropped_in-append, popped_in-append, pushed_in-append, Depart, Event, outcomes, after, Outcome, empty_in, departure, dropped_in, pushed_in, Arrived, Dropped, asked_in, IsSound, SourceState, departed, leaver, Leaver, arrived, class_of, arrival_ranks, is_full, size, arrivals_in, departures_in}
+use Rattle.sched_defs.specs.Events.{Arrive}
 use Rattle.sched_core.specs.declared.scheduler.Arrival.TheVariants as arrival
-use Rattle.sched_run.specs.Stages.{arrivals_in, departures_in}
 
 -- ---- events
 pub arrivals_in-append : (es fs : List Event) → arrivals_in (es ++ fs) ≡ arrivals_in es + arrivals_in fs

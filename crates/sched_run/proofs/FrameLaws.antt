@@ -1,9 +1,7 @@
 -- The conditions that consecutive calls keep.
-use Rattle.std.proofs.Common.{◌∙◌, arith}
+use Rattle.sched_run.proofs.Prelude.{arith, ◌∙◌, Ghosts, Continues, KeepsPackets}
 use Rattle.sched_defs.specs.declared.packets.Packets as packets
-use Rattle.sched_core.specs.declared.scheduler.Scheduler.{Ghosts}
 use Rattle.sched_run.specs.declared.run.Run.{Run}
-use Rattle.sched_run.specs.Frames.{Continues, KeepsPackets}
 
 pub continues_then : {C U N W : Type 0} (S : Ghosts C U) (a b c : Run C N W) → Continues S a b → Continues S b c → Continues S a c
 continues_then S a b c first second = record {

@@ -1,20 +1,7 @@
 -- Knowledge of captured bytes, and the records it allows.
-use Rattle.std.proofs.Common.{ℕ, Bool, Option, List, [], ◌∷◌, map}
-use Rattle.policy_defs.specs.Policy.{Policy}
-use Rattle.sched_defs.specs.SourceState.{SourceState}
-use Rattle.sched_defs.specs.Events.{Event, Arrive, Outcome}
-use Rattle.sched_defs.specs.Script.{Step}
-use Rattle.sched_defs.specs.Link.{Sent}
-use Rattle.sched_defs.specs.declared.ending.Ending.{Ending}
-use Rattle.sched_defs.specs.Packets.{Left, Captured}
-use Rattle.sched_core.specs.declared.scheduler.Scheduler.{Ghosts}
+use Rattle.sched_run.proofs.Prelude.{ℕ, List, [], Option, ◌∷◌, Bool, map, Policy, Ghosts, Event, Outcome, Sent, Left, Captured, Step, SourceState, Ending, Courses, Agenda, heard, Sends, SendsAmid, SendsFirst, Recordings, AreJoined, Makes, Stage, Stops, MakesLast, StopsLast, Arrives, StopsAmid, ArrivalsStop, Turns}
+use Rattle.sched_defs.specs.Events.{Arrive}
 use Rattle.sched_run.specs.declared.recorder.Recorder as recorder
-use Rattle.sched_run.specs.Recording.{AreJoined, Recordings}
-use Rattle.sched_run.specs.Heard.{heard}
-use Rattle.sched_run.specs.Stages.{Stage, Makes, MakesLast, Stops, StopsLast}
-use Rattle.sched_run.specs.Turns.{Arrives, ArrivalsStop, Turns, StopsAmid}
-use Rattle.sched_run.specs.Courses.{Agenda, Courses}
-use Rattle.sched_run.specs.Links.{Sends, SendsAmid, SendsFirst}
 
 -- ---- laws of recordings
 pub heard-joined : {W : Type 0} (R : recorder.Ghosts W) → ((captured : Captured) → AreJoined (R.records captured) (R.cuts captured))

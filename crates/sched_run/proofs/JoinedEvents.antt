@@ -1,18 +1,8 @@
 -- Consecutive events, joined, with their records.
-use Rattle.std.proofs.Common.{◌≡◌, ℕ, ◌+◌, suc, Option, None, Some, Ok, List, [], ◌∷◌, ◌++◌, length, refl, sym, ap, ◌∙◌, subst, arith, append_assoc, append-nil}
-use Rattle.tree_defs.specs.Tree.{Tree, Address}
-use Rattle.packet_defs.specs.declared.packet.Packet.{Packet}
-use Rattle.policy_defs.specs.Policy.{Policy}
-use Rattle.sched_defs.specs.SourceState.{SourceState, arrived, departed}
-use Rattle.sched_defs.specs.Events.{Event, Arrive, Depart, Outcome, step, after, outcomes}
-use Rattle.sched_defs.proofs.Runs.{after-append, outcomes-append, departures_count}
-use Rattle.sched_core.specs.declared.scheduler.Arrival.{Arrival}
-use Rattle.sched_core.specs.declared.scheduler.Scheduler.{Ghosts}
-use Rattle.sched_run.specs.Recording.{AreJoined, Recordings}
-use Rattle.sched_core.specs.Arrivals.{arrival_of, pushes_of}
+use Rattle.sched_run.proofs.Prelude.{ℕ, arith, None, ◌∙◌, ◌≡◌, refl, sym, List, subst, [], ◌+◌, ap, Some, Option, ◌++◌, ◌∷◌, length, append-nil, append_assoc, suc, Ok, Packet, Policy, arrival_of, pushes_of, Arrival, Ghosts, outcomes-append, after-append, departures_count, Depart, Event, outcomes, after, Outcome, step, SourceState, departed, arrived, Address, Tree, StopsIn, HasMade, Plays, HasMadeSome, Recordings, AreJoined}
+use Rattle.sched_defs.specs.Events.{Arrive}
 use Rattle.sched_core.specs.Origins.{Origin, images_of}
 use Rattle.sched_core.specs.Spills.{raised, arrival_spills, spills_in}
-use Rattle.sched_run.specs.Played.{HasMade, HasMadeSome, Plays, StopsIn}
 use Rattle.sched_run.proofs.EventCounts.{outcomes_of, pushes_are, outcomes_both}
 
 pub length-outcomes : (policy : Policy) (es : List Event) (s : SourceState) → length (outcomes policy es s) ≡ length es

@@ -1,3 +1,4 @@
+pub mod Prelude
 pub mod FrameLaws
 pub mod JoinedEvents
 pub mod HeardLaws

@@ -1,28 +1,16 @@
 -- The numbers and names of leaves, and the outcomes recorded at them.
-use Rattle.std.proofs.Common.{◌≡◌, ◌≤◌, ◌<◌, ℕ, Bool, true, false, if◌then◌else◌, zero, suc, ◌+◌, List, [], ◌∷◌, length, Option, Some, None, IfSome, option_map, refl, sym, ap, ◌∙◌, subst, arith}
+use Rattle.sched_run.proofs.Prelude.{ℕ, arith, None, ◌∙◌, ◌≡◌, refl, sym, List, subst, [], ◌+◌, ap, Some, ◌≤◌, Option, ◌∷◌, length, false, ◌<◌, Bool, suc, true, if◌then◌else◌, zero, IfSome, option_map, Departed, Packet, IsAccepted, Policy, Node, name_at, node_at, arrival_of, leaf_number, departed_packet, IsTaken, Arrival, Depart, outcomes, CanArrive, departure, IsSound, SourceState, leaver, Leaver, class_of, arrival_ranks, is_full, Way, topology_of, Topology, nodes, Address, Tree, IsAddressOf, LeadsBelow, LeadsToLeaf, SameShape, Trees, depth, depth_below, inner, leaf, more, nodes_below, none, subtree_in}
 use Rattle.std.specs.Option.{option_map_or}
 use Rattle.text_core.specs.Tokens.{most_name}
-use Rattle.tree_defs.specs.Tree.{Tree, leaf, inner, Trees, none, more, Address, subtree_in, IsAddressOf, LeadsToLeaf, LeadsBelow, SameShape, nodes, nodes_below, depth, depth_below}
-use Rattle.tree_defs.specs.Topology.{Topology, topology_of}
 use Rattle.tree_defs.proofs.Shapes.{topology_of-same, LeadsToLeaf-topology}
 use Rattle.tree_defs.proofs.Options.{option_map-some}
-use Rattle.packet_defs.specs.declared.packet.Packet.{Packet}
-use Rattle.packet_defs.specs.declared.packet.Departed.{Departed}
-use Rattle.policy_defs.specs.Policy.{Policy, Node, node_at, name_at}
-use Rattle.policy_defs.specs.Accepted.{IsAccepted}
 use Rattle.policy_defs.specs.Numbers.{number_at, number_below}
-use Rattle.sched_defs.specs.SourceState.{SourceState, Leaver, class_of, arrival_ranks, is_full, leaver}
-use Rattle.sched_defs.specs.Sound.{IsSound}
 use Rattle.sched_defs.specs.Events as events
-use Rattle.sched_defs.specs.Events.{Arrive, Depart, CanArrive, departure, outcomes}
+use Rattle.sched_defs.specs.Events.{Arrive}
 use Rattle.sched_defs.specs.Laws.{LeavesItsLeaf}
 use Rattle.sched_defs.proofs.Leaving.{arrives_at_a_leaf, leaves_its_leaf}
 use Rattle.sched_defs.proofs.Soundness.{class_is_ready}
-use Rattle.sched_core.specs.Arrivals.{leaf_number, arrival_of}
-use Rattle.sched_core.specs.Departures.{departed_packet, IsTaken}
-use Rattle.sched_core.specs.declared.scheduler.Arrival.{Arrival}
 use Rattle.sched_core.specs.declared.scheduler.Arrival.TheVariants as arrival
-use Rattle.tree_core.specs.Paths.{Way}
 
 module _ {Q : Type 0} where
   mutual

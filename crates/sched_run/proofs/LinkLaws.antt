@@ -1,37 +1,11 @@
 -- The departures and arrivals of a link, turn by turn.
-use Rattle.std.proofs.Common.{◌≡◌, ◌≤◌, ◌<◌, ◌*◌, ℕ, zero, suc, ◌+◌, ◌-◌, max, Bool, true, false, Option, None, Some, List, [], ◌∷◌, ◌++◌, refl, sym, ap, ◌∙◌, subst, arith, append_assoc, append-nil}
-use Rattle.std.specs.Prelude.{IfSome, option_map}
+use Rattle.sched_run.proofs.Prelude.{ℕ, arith, None, ◌∙◌, ◌≡◌, refl, sym, List, subst, [], ◌+◌, ap, Some, ◌≤◌, Option, ◌++◌, ◌∷◌, append-nil, false, ◌<◌, Bool, append_assoc, ◌-◌, suc, true, zero, ◌*◌, max, IfSome, option_map, Departed, Packet, IsAccepted, Policy, departed_packet, next_departed, ForEachState, StandForOne, Ghosts, held_none, after-append, Depart, Event, outcomes, after, empty_in, CanArrive, FaultAt, Sent, free_for, is_due, link_course, link_turn, send_all, send_until, sent_first, sent_nothing, IsHeldBelow, IsSendable, Left, Came, IsOver, Course, behind, IsSound, SourceState, departed, leaver, Leaver, Whole, Sight, size, Courses, IsCourse, link_agenda, CoursesAmid, CoursesFirst, Sends, SendsAmid, SendsFirst, IsSent, Recordings, AreJoined, Makes, Stage, event_of, arrivals_in, Stops, FromEach, stage, AreFirst, Tally}
 use Rattle.sched_defs.specs.SendTime.{IsRate, send_time}
 use Rattle.sched_defs.proofs.SendTimes.{send_time-least}
-use Rattle.tree_defs.specs.SourceTree.{size}
-use Rattle.packet_defs.specs.declared.packet.Packet.{Packet}
-use Rattle.packet_defs.specs.declared.packet.Departed.{Departed}
-use Rattle.policy_defs.specs.Policy.{Policy}
-use Rattle.policy_defs.specs.Accepted.{IsAccepted}
-use Rattle.sched_defs.specs.SourceState.{SourceState, Leaver, departed, leaver}
-use Rattle.sched_defs.specs.Sound.{IsSound}
-use Rattle.sched_defs.specs.Events.{Event, Arrive, Depart, CanArrive, after, outcomes, empty_in}
-use Rattle.sched_defs.specs.Faults.{FaultAt}
-use Rattle.sched_defs.specs.Script.{Course, behind}
-use Rattle.sched_defs.specs.Link.{Sent, sent_nothing, sent_first, is_due, send_until, send_all, free_for, link_turn, link_course}
-use Rattle.sched_defs.specs.Numbered.{IsSendable, IsHeldBelow}
-use Rattle.sched_defs.specs.Packets.{Left, Came, IsOver}
-use Rattle.sched_defs.specs.declared.ending.Ending.TheVariants.{Whole}
+use Rattle.sched_defs.specs.Events.{Arrive}
 use Rattle.sched_defs.specs.declared.rate.LinkRate.{LinkRate}
-use Rattle.sched_defs.proofs.Courses.{held_none}
 use Rattle.sched_defs.proofs.Leaving.{leaver-none, size_departed}
 use Rattle.sched_defs.proofs.Links.{sending, turn_leads, turn_empty}
-use Rattle.sched_defs.proofs.Runs.{after-append}
-use Rattle.sched_core.specs.Departures.{departed_packet, next_departed}
-use Rattle.sched_core.specs.declared.scheduler.Scheduler.{Ghosts}
-use Rattle.sched_run.specs.Recording.{AreJoined, Recordings}
-use Rattle.sched_core.specs.Standing.{StandForOne, ForEachState}
-use Rattle.tap_core.specs.Watching.{Sight}
-use Rattle.sched_run.specs.declared.tally.Tally.{Tally}
-use Rattle.sched_run.specs.Stages.{Stage, stage, event_of, arrivals_in, FromEach, Makes, Stops}
-use Rattle.sched_run.specs.Turns.{AreFirst}
-use Rattle.sched_run.specs.Links.{IsSent, Sends, SendsAmid, SendsFirst}
-use Rattle.sched_run.specs.Courses.{link_agenda, IsCourse, Courses, CoursesFirst, CoursesAmid}
 use Rattle.sched_run.proofs.MadeEvents.{Stands, stands_after, makes_none, makes_both}
 use Rattle.sched_run.proofs.EventCounts.{AreOf, outcomes_of}
 use Rattle.sched_run.proofs.AgendaLaws.{IsBehind, HasRun, run_none, regiven}

@@ -1,27 +1,6 @@
 -- The events of a generated load, one after another.
-use Rattle.std.proofs.Common.{◌≡◌, ◌<◌, ◌≤◌, ◌^◌, ℕ, zero, suc, ◌+◌, ◌*◌, ◌-◌, Bool, true, false, if◌then◌else◌, Option, None, List, [], ◌∷◌, ◌++◌, length, replicate, refl, sym, ap, ◌∙◌, subst, arith, add-one}
-use Rattle.tree_defs.specs.SourceTree.{size}
-use Rattle.packet_defs.specs.declared.packet.Packet.{Packet}
-use Rattle.policy_defs.specs.Policy.{Policy}
-use Rattle.policy_defs.specs.Accepted.{IsAccepted}
-use Rattle.sched_defs.specs.SourceState.{SourceState}
-use Rattle.sched_defs.specs.Sound.{IsSound}
-use Rattle.sched_defs.specs.Events.{Event, Arrive, Depart, CanArrive, after, outcomes}
-use Rattle.sched_defs.specs.Numbered.{IsSendable, IsHeldBelow}
-use Rattle.sched_defs.proofs.Courses.{held_none}
-use Rattle.sched_defs.proofs.Runs.{none_lost}
-use Rattle.sched_core.specs.declared.scheduler.Scheduler.{Ghosts}
-use Rattle.sched_core.specs.Standing.{StandForOne}
-use Rattle.tap_core.specs.Watching.{Sight}
-use Rattle.sched_run.specs.declared.drawing.Drawing.{Drawing}
-use Rattle.sched_run.specs.declared.tally.Tally.{Tally}
-use Rattle.sched_run.specs.declared.tally.Totals.{Totals}
-use Rattle.sched_run.specs.Recording.{AreJoined, Recordings}
-use Rattle.sched_run.specs.Load.{departs, packet_of, load_event, load_next, load_events, load_run, first_drawing, MakesLoad}
-use Rattle.sched_run.specs.Drawings.{HasLoadClasses}
-use Rattle.sched_run.specs.Played.{StopsIn}
-use Rattle.sched_run.specs.Stages.{Stage, stage, event_of, packets_in, arrivals_in, departures_in, AreNext, IsFresh, CanBegin, Makes, Stops}
-use Rattle.sched_run.specs.Totals.{AreTotals}
+use Rattle.sched_run.proofs.Prelude.{ℕ, arith, None, ◌∙◌, ◌≡◌, refl, sym, List, subst, [], ◌+◌, ap, ◌≤◌, Option, ◌++◌, ◌∷◌, length, false, replicate, ◌<◌, Bool, ◌-◌, suc, true, if◌then◌else◌, zero, add-one, ◌*◌, ◌^◌, Packet, IsAccepted, Policy, StandForOne, Ghosts, held_none, none_lost, Depart, Event, outcomes, after, CanArrive, IsHeldBelow, IsSendable, IsSound, SourceState, Sight, size, HasLoadClasses, first_drawing, load_events, load_next, MakesLoad, departs, load_event, load_run, packet_of, StopsIn, Recordings, AreJoined, Makes, Stage, event_of, arrivals_in, Stops, stage, AreNext, CanBegin, IsFresh, departures_in, packets_in, AreTotals, Drawing, Tally, Totals}
+use Rattle.sched_defs.specs.Events.{Arrive}
 use Rattle.sched_run.proofs.AgendaLaws.{regiven}
 use Rattle.sched_run.proofs.EventCounts.{AreOf, outcomes_of, arrivals_in-append}
 use Rattle.sched_run.proofs.JoinedEvents.{stops_first}

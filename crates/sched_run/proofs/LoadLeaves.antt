@@ -1,20 +1,8 @@
 -- A generated load leaves no packet queued: its drain pops them all.
-use Rattle.std.proofs.Common.{◌≤◌, ℕ, None, List, ◌++◌, replicate, refl, sym, ap, ◌∙◌, subst, arith}
-use Rattle.tree_defs.specs.SourceTree.{size}
-use Rattle.tree_defs.specs.Topology.{topology_of}
-use Rattle.tree_defs.proofs.WellFormedLaws.{size-empty}
-use Rattle.policy_defs.specs.Policy.{Policy}
-use Rattle.policy_defs.specs.Accepted.{IsAccepted}
-use Rattle.sched_defs.specs.SourceState.{SourceState, start}
-use Rattle.sched_defs.specs.Sound.{IsSound}
-use Rattle.sched_defs.specs.Events.{Event, Depart, CanMake, after, outcomes, empty_in}
+use Rattle.sched_run.proofs.Prelude.{ℕ, arith, None, ◌∙◌, refl, sym, List, subst, ap, ◌≤◌, ◌++◌, replicate, IsAccepted, Policy, none_lost, outcomes-append, after-append, CanMake-departures, empty_in-append, sound_after, CanMake-joined, Depart, Event, outcomes, after, empty_in, CanMake, IsSound, SourceState, start, size-empty, size, topology_of, HasLoadClasses, most_load, first_drawing, load_events, LeavesNothing, AreNext, packets_in}
 use Rattle.sched_defs.specs.Laws.{HoldsNothing, IsDrained}
 use Rattle.sched_defs.proofs.Soundness.{sound_start}
-use Rattle.sched_defs.proofs.Runs.{sound_after, CanMake-departures, CanMake-joined, after-append, outcomes-append, empty_in-append, none_lost}
 use Rattle.sched_defs.proofs.Drains.{drained}
-use Rattle.sched_run.specs.Load.{load_events, first_drawing, LeavesNothing}
-use Rattle.sched_run.specs.Drawings.{HasLoadClasses, most_load}
-use Rattle.sched_run.specs.Stages.{packets_in, AreNext}
 use Rattle.sched_run.proofs.MadeEvents.{can_make}
 use Rattle.sched_run.proofs.LoadLaws.{loads_are_next}
 

@@ -1,28 +1,12 @@
 -- Consecutive events of a run.
-use Rattle.std.proofs.Common.{◌≡◌, ℕ, zero, suc, ◌+◌, ◌-◌, ◌<◌, Bool, Option, None, List, [], ◌∷◌, ◌++◌, length, replicate, refl, sym, ap, ◌∙◌, subst, arith, append_assoc}
+use Rattle.sched_run.proofs.Prelude.{ℕ, arith, None, ◌∙◌, ◌≡◌, refl, sym, List, subst, [], ◌+◌, ap, Option, ◌++◌, ◌∷◌, length, replicate, ◌<◌, Bool, append_assoc, ◌-◌, suc, zero, replicate-append-replicate, sum_by, Packet, IsAccepted, Policy, Ghosts, held_none, held_arrived, held_departed, sound_after, Depart, Event, outcomes, after, CanArrive, CanMake, IsHeldBelow, IsSendable, AreNumberedFrom, IsSound, SourceState, departed, arrived, Held, shows_none, Sight, StopsIn, Plays, Recordings, AreJoined, Makes, Stage, event_of, arrivals_in, Stops, FromEach, stage, AreNext, departures_in, packets_in, MakesLast, StopsLast}
 use Rattle.std.specs.List.{AllByRecursion}
-use Rattle.std.specs.Prelude.{sum_by}
 use Rattle.std.proofs.lemmas.Grind.{replicate_next}
-use Rattle.std.proofs.lemmas.List.{replicate-append-replicate}
 use Rattle.std.proofs.lemmas.List.Sums.{get_or-le-sum_by}
 use Rattle.tree_defs.specs.Packets.{values}
-use Rattle.packet_defs.specs.declared.packet.Packet.{Packet}
-use Rattle.policy_defs.specs.Policy.{Policy}
-use Rattle.policy_defs.specs.Accepted.{IsAccepted}
-use Rattle.sched_defs.specs.SourceState.{Held, SourceState, arrived, departed}
-use Rattle.sched_defs.specs.Sound.{IsSound}
-use Rattle.sched_defs.specs.Events.{Event, Arrive, Depart, CanArrive, CanMake, after, outcomes}
-use Rattle.sched_defs.specs.Numbered.{AreNumberedFrom, IsSendable, IsHeldBelow}
-use Rattle.sched_defs.proofs.Courses.{held_none, held_arrived, held_departed}
-use Rattle.sched_defs.proofs.Runs.{sound_after}
-use Rattle.sched_core.specs.declared.scheduler.Scheduler.{Ghosts}
-use Rattle.sched_run.specs.Recording.{AreJoined, Recordings}
-use Rattle.sched_run.specs.Played.{Plays, StopsIn}
-use Rattle.tap_core.specs.Watching.{Sight}
-use Rattle.tap_core.proofs.WatchLaws.{shows_none}
+use Rattle.sched_defs.specs.Events.{Arrive}
 use Rattle.sched_run.proofs.JoinedEvents.{made_none, made_all, plays_both, stops_first, stops_second}
 use Rattle.sched_run.proofs.ShownLaws.{shown_both}
-use Rattle.sched_run.specs.Stages.{Stage, stage, event_of, packets_in, arrivals_in, departures_in, AreNext, FromEach, Makes, MakesLast, Stops, StopsLast}
 use Rattle.sched_run.proofs.EventCounts.{arrivals_in-append, departures_in-append, arrivals_in-departures, outcomes_both}
 
 -- ---- packets and their numbers

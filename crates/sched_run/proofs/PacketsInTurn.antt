@@ -1,21 +1,6 @@
 -- Packets that are read one after another, and arrive.
-use Rattle.std.proofs.Common.{◌≡◌, ◌<◌, ◌≤◌, ◌^◌, ℕ, ◌+◌, ◌-◌, Option, None, Some, List, [], ◌++◌, map, refl, sym, ap, ◌∙◌, subst, arith, append_assoc, length-append, is_some, true, false}
-use Rattle.std.proofs.lemmas.List.{map-append}
-use Rattle.packet_defs.specs.declared.packet.Packet.{Packet}
-use Rattle.policy_defs.specs.Policy.{Policy}
-use Rattle.policy_defs.specs.Accepted.{IsAccepted}
-use Rattle.sched_defs.specs.Events.{Event, Arrive, outcomes}
-use Rattle.sched_defs.specs.Numbered.{IsHeldBelow}
-use Rattle.sched_core.specs.declared.scheduler.Scheduler.{Ghosts}
-use Rattle.sched_run.specs.Recording.{AreJoined, Recordings}
-use Rattle.sched_core.specs.Standing.{StandForOne}
-use Rattle.sched_defs.specs.declared.ending.Ending.{Ending}
-use Rattle.sched_defs.specs.declared.ending.Ending.TheVariants.{Whole, BadCapture, PastLast}
-use Rattle.sched_run.specs.declared.tally.Tally.{Tally}
-use Rattle.sched_defs.specs.Packets.{Left, Came}
-use Rattle.tap_core.specs.Watching.{Sight}
-use Rattle.sched_run.specs.Stages.{Stage, stage, event_of, departures_in, HasRoom, Makes, Stops}
-use Rattle.sched_run.specs.Turns.{CameUntil, Arrives, WereFirst, ArrivalsStop}
+use Rattle.sched_run.proofs.Prelude.{ℕ, arith, None, ◌∙◌, ◌≡◌, refl, sym, List, subst, [], ◌+◌, ap, Some, ◌≤◌, Option, ◌++◌, false, ◌<◌, append_assoc, ◌-◌, map, true, ◌^◌, length-append, is_some, map-append, Packet, IsAccepted, Policy, StandForOne, Ghosts, Event, outcomes, IsHeldBelow, Left, Came, Ending, Whole, BadCapture, PastLast, Sight, Recordings, AreJoined, Makes, Stage, event_of, Stops, stage, departures_in, HasRoom, Arrives, ArrivalsStop, CameUntil, WereFirst, Tally}
+use Rattle.sched_defs.specs.Events.{Arrive}
 use Rattle.sched_run.proofs.EventCounts.{AreOf, outcomes_of}
 use Rattle.sched_run.proofs.MadeEvents.{stands_after, makes_none, makes_both, stops_later}
 

@@ -1,37 +1,8 @@
 -- The report of a course, and its ending.
-use Rattle.std.proofs.Common.{◌≡◌, ℕ, ◌+◌, Option, None, Some, List, [], ◌++◌, length, refl, sym, ap, ◌∙◌, subst, arith, append_assoc, append-nil}
-use Rattle.std.specs.Prelude.{IfSome}
-use Rattle.outside_core.specs.Written.{Appended}
-use Rattle.outside_core.proofs.WrittenLaws.{appended_in_turn}
-use Rattle.outside_core.specs.Text.{IsCut}
-use Rattle.report_core.specs.Gathered.{Gathered, text_of}
-use Rattle.report_core.proofs.TextLaws.{IsCut-append, IsCut-longer}
-use Rattle.tree_defs.specs.SourceTree.{size}
-use Rattle.policy_defs.specs.Policy.{Policy}
-use Rattle.policy_defs.specs.Accepted.{IsAccepted}
-use Rattle.sched_defs.specs.SourceState.{SourceState}
-use Rattle.sched_defs.specs.Sound.{IsSound}
-use Rattle.sched_defs.specs.Events.{Event, Outcome, after, outcomes}
-use Rattle.sched_defs.specs.Script.{Course}
-use Rattle.sched_defs.specs.Numbered.{IsHeldBelow}
+use Rattle.sched_run.proofs.Prelude.{ℕ, arith, None, ◌∙◌, ◌≡◌, refl, sym, List, subst, [], ◌+◌, ap, Some, Option, ◌++◌, length, append-nil, append_assoc, IfSome, appended_in_turn, IsCut, Appended, IsAccepted, Policy, IsCut-append, IsCut-longer, text_of, Gathered, ForEachState, Ghosts, outcomes-append, Event, outcomes, after, Outcome, IsHeldBelow, Left, Captured, AreThere, Course, IsSound, SourceState, Ending, Whole, BadCapture, PastLast, Shows, size, Courses, IsCourse, Agenda, Breaks, OnCourse, Runs, StopsIn, HasMade, told, Recordings, AreJoined, shown_in, Makes, Stage, event_of, FromEach, IsFresh, AreTotals, totals_line, StopsAmid, Totals}
 use Rattle.sched_defs.specs.Report.{lines_from, last_line, course_report}
-use Rattle.sched_defs.proofs.Runs.{outcomes-append}
-use Rattle.sched_core.specs.declared.scheduler.Scheduler.{Ghosts}
-use Rattle.sched_core.specs.Standing.{ForEachState}
-use Rattle.tap_core.specs.Watching.{Shows}
-use Rattle.sched_run.specs.Played.{told, HasMade, StopsIn}
-use Rattle.sched_run.specs.Shown.{shown_in}
-use Rattle.sched_run.specs.Recording.{AreJoined, Recordings}
 use Rattle.sched_run.specs.Lines.{adds_lines, cuts_lines, lines_from-append, lines_are_joined}
 use Rattle.sched_run.proofs.JoinedEvents.{length-outcomes}
-use Rattle.sched_defs.specs.declared.ending.Ending.{Ending}
-use Rattle.sched_defs.specs.declared.ending.Ending.TheVariants.{Whole, BadCapture, PastLast}
-use Rattle.sched_run.specs.declared.tally.Totals.{Totals}
-use Rattle.sched_defs.specs.Packets.{Left, Captured, AreThere}
-use Rattle.sched_run.specs.Stages.{Stage, event_of, FromEach, IsFresh, Makes}
-use Rattle.sched_run.specs.Turns.{StopsAmid}
-use Rattle.sched_run.specs.Courses.{Agenda, IsCourse, Courses, OnCourse, Runs, Breaks}
-use Rattle.sched_run.specs.Totals.{totals_line, AreTotals}
 use Rattle.sched_run.proofs.TotalLaws.{IsTallied, tallied, held_then}
 
 -- ---- lines

@@ -1,13 +1,6 @@
 -- What taps are shown of consecutive events.
-use Rattle.std.proofs.Common.{◌≡◌, List, [], ◌∷◌, ◌++◌, refl, sym, ap, ◌∙◌, subst, append_assoc}
-use Rattle.policy_defs.specs.Policy.{Policy}
-use Rattle.sched_defs.specs.SourceState.{SourceState}
-use Rattle.sched_defs.specs.Events.{Event, Outcome, after, outcomes}
-use Rattle.sched_defs.proofs.Runs.{outcomes-append}
+use Rattle.sched_run.proofs.Prelude.{◌∙◌, ◌≡◌, refl, sym, List, subst, [], ap, ◌++◌, ◌∷◌, append_assoc, Policy, outcomes-append, Event, outcomes, after, Outcome, SourceState, shows_both, Sight, Shows, shown_in, shown_of}
 use Rattle.tap_core.specs.Lists.{Shown}
-use Rattle.tap_core.specs.Watching.{Sight, Shows}
-use Rattle.tap_core.proofs.WatchLaws.{shows_both}
-use Rattle.sched_run.specs.Shown.{shown_of, shown_in}
 
 shown_in-append : (policy : Policy) (os qs : List Outcome) → shown_in policy (os ++ qs) ≡ shown_in policy os ++ shown_in policy qs
 shown_in-append policy [] qs = refl

@@ -1,26 +1,9 @@
 -- The results of each step of a script.
-use Rattle.std.proofs.Common.{◌≡◌, ◌<◌, ◌≤◌, ℕ, ◌+◌, ◌-◌, nat_lt, Bool, length-append, Option, None, Some, List, [], ◌++◌, map, length, take, drop, replicate, refl, sym, ap, ◌∙◌, arith, append-nil, true, false}
-use Rattle.std.specs.Prelude.{IfSome, IfOk, OnErr, Result, Ok, Err}
-use Rattle.std.proofs.lemmas.List.{map-append, take_all}
+use Rattle.sched_run.proofs.Prelude.{ℕ, arith, None, ◌∙◌, ◌≡◌, refl, sym, List, [], ◌+◌, ap, Some, ◌≤◌, Option, ◌++◌, length, append-nil, false, replicate, ◌<◌, Bool, ◌-◌, map, true, Ok, drop, length-append, nat_lt, take, map-append, take_all, IfSome, IfOk, OnErr, Result, Err, Packet, IsAccepted, Policy, ForEachState, Ghosts, Depart, Event, FaultAt, Left, Came, IsOver, Step, left_by, step_events, stop_at, Arrivals, Departures, Drain, Rest, ends_at_fault, SourceState, Ending, Whole, BadCapture, PastLast, size, Recordings, Makes, Stage, event_of, Stops, FromEach, Arrives, StopsAmid, AreFirst, ArrivalsStop, Turns, CameUntil, IsTurn, WereFirst, CameOf}
 use Rattle.std.proofs.lemmas.Bool.{ltb-true, lt-ltb}
 use Rattle.std.proofs.Math.Seq.{take-append_seam, drop-append_seam, take-append-add}
-use Rattle.tree_defs.specs.SourceTree.{size}
-use Rattle.packet_defs.specs.declared.packet.Packet.{Packet}
-use Rattle.policy_defs.specs.Policy.{Policy}
-use Rattle.policy_defs.specs.Accepted.{IsAccepted}
-use Rattle.sched_defs.specs.SourceState.{SourceState}
-use Rattle.sched_defs.specs.Events.{Event, Arrive, Depart}
-use Rattle.sched_defs.specs.Script.{Step, Arrivals, Departures, Rest, Drain, step_events, left_by, stop_at, ends_at_fault}
-use Rattle.sched_core.specs.declared.scheduler.Scheduler.{Ghosts}
-use Rattle.sched_core.specs.Standing.{ForEachState}
-use Rattle.sched_defs.specs.declared.ending.Ending.{Ending}
-use Rattle.sched_defs.specs.declared.ending.Ending.TheVariants.{Whole, BadCapture, PastLast}
-use Rattle.sched_defs.specs.Faults.{FaultAt}
-use Rattle.sched_defs.specs.Packets.{Left, Came, IsOver}
-use Rattle.sched_run.specs.Stages.{Stage, event_of, FromEach, Makes, Stops}
-use Rattle.sched_run.specs.Turns.{CameUntil, CameOf, Arrives, WereFirst, ArrivalsStop, IsTurn, Turns, AreFirst, StopsAmid}
+use Rattle.sched_defs.specs.Events.{Arrive}
 use Rattle.sched_run.proofs.EventCounts.{empty_in-arrivals, empty_in-departures, empty_in-drain}
-use Rattle.sched_run.specs.Recording.{Recordings}
 
 pub if_ok_turned : {T E : Type 0} (r : Result T E) (P Q : T → Type 0) → ((t : T) → P t → Q t) → IfOk r P → IfOk r Q
 if_ok_turned (Ok t) P Q f h = f t h

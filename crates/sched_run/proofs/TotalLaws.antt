@@ -1,20 +1,6 @@
 -- The totals of a run, from its counts.
-use Rattle.std.proofs.Common.{◌≡◌, ◌≤◌, ℕ, ◌+◌, ◌==◌, if◌then◌else◌, None, Some, List, refl, sym, ap, ◌∙◌, arith}
-use Rattle.tree_defs.specs.SourceTree.{size}
-use Rattle.policy_defs.specs.Policy.{Policy}
-use Rattle.policy_defs.specs.Accepted.{IsAccepted}
-use Rattle.sched_defs.specs.SourceState.{SourceState}
-use Rattle.sched_defs.specs.Sound.{IsSound}
-use Rattle.sched_defs.specs.Events.{Event, Outcome, after, outcomes, pushed_in, popped_in, dropped_in, empty_in}
-use Rattle.sched_defs.specs.Numbered.{IsHeldBelow}
+use Rattle.sched_run.proofs.Prelude.{ℕ, arith, None, ◌∙◌, ◌≡◌, refl, sym, List, ◌+◌, ap, Some, ◌≤◌, if◌then◌else◌, ◌==◌, IsAccepted, Policy, ForEachState, StandForOne, Ghosts, none_lost, Event, outcomes, after, Outcome, empty_in, dropped_in, pushed_in, popped_in, IsHeldBelow, IsSound, SourceState, size, Recordings, AreJoined, Makes, Stage, arrivals_in, CanBegin, IsFresh, AreTotals, HasTotals, Totals}
 use Rattle.sched_defs.specs.Report.{shown_drops}
-use Rattle.sched_defs.proofs.Runs.{none_lost}
-use Rattle.sched_core.specs.declared.scheduler.Scheduler.{Ghosts}
-use Rattle.sched_core.specs.Standing.{StandForOne, ForEachState}
-use Rattle.sched_run.specs.declared.tally.Totals.{Totals}
-use Rattle.sched_run.specs.Recording.{AreJoined, Recordings}
-use Rattle.sched_run.specs.Stages.{Stage, arrivals_in, IsFresh, CanBegin, Makes}
-use Rattle.sched_run.specs.Totals.{HasTotals, AreTotals}
 use Rattle.sched_run.proofs.MadeEvents.{can_make, stands_after}
 use Rattle.sched_run.proofs.EventCounts.{AreOf, outcomes_of}
 

@@ -1,7 +1,6 @@
 -- The bits that a number needs.
-use Rattle.std.proofs.Common.{ℕ, suc, ◌≡◌, ◌<◌, ◌≤◌, ◌+◌, ◌-◌, ◌*◌, ◌^◌, ◌⊎◌, inl, inr, pow_mono, sym, subst, arith}
+use Rattle.size_core.proofs.Prelude.{◌≡◌, ℕ, sym, arith, subst, ◌+◌, ◌<◌, ◌≤◌, suc, ◌-◌, inl, inr, ◌^◌, ◌⊎◌, ◌*◌, pow_mono, cases_lt}
 use Rattle.std.proofs.lemmas.Nat.{leading_length}
-use Rattle.std.proofs.lemmas.Bool.{cases_lt}
 use Rattle.std.specs.Int.Count.{count_leading_zeros}
 use Rattle.size_core.specs.Numbers.{bits_for}
 

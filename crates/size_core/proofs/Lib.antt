@@ -1,3 +1,4 @@
+pub mod Prelude
 pub mod BitLaws
 pub mod MemoryLaws
 pub mod StoreLaws

@@ -1,12 +1,5 @@
 -- The lines of nodes with a push.
-use Rattle.std.proofs.Common.{◌≡◌, ◌≤◌, ◌<◌, ◌+◌, ◌⊎◌, ℕ, zero, suc, nat_lt, Bool, Option, None, Some, IfSome, List, [], ◌∷◌, ◌++◌, length, refl, ap, sym, ◌∙◌, subst, arith, inl, inr, append-nil}
-use Rattle.std.specs.Prelude.{slice_get, option_map, unwrap_or}
-use Rattle.std.proofs.lemmas.Bool.{cases_lt, lt-ltb, le-ltb}
-use Rattle.tree_defs.specs.Tree.{Address}
-use Rattle.size_core.specs.Paths.{Keys, address_in, IsOnce}
-use Rattle.size_core.specs.Hops.{Uses}
-use Rattle.size_core.specs.Sizes.{Line, line_address}
-use Rattle.size_core.specs.Results.{figures_of, line_if, line_with, lines_of}
+use Rattle.size_core.proofs.Prelude.{◌≡◌, ◌∙◌, ℕ, length, sym, ap, List, arith, subst, ◌+◌, ◌<◌, ◌≤◌, IfSome, Some, [], refl, ◌∷◌, Option, ◌++◌, suc, None, zero, Bool, inl, inr, nat_lt, ◌⊎◌, append-nil, cases_lt, le-ltb, lt-ltb, slice_get, option_map, unwrap_or, Address, Uses, address_in, Keys, IsOnce, figures_of, lines_of, line_with, line_if, Line, line_address}
 use Rattle.size_core.proofs.Lists.{each_push, each_weaker}
 
 -- a line is that of one of the first nodes, which has a push

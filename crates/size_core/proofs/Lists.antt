@@ -1,16 +1,7 @@
 -- Properties of each item of a list, by index.
-use Rattle.std.proofs.Common.{◌≡◌, ◌≢◌, ◌<◌, ◌+◌, ℕ, zero, suc, Bool, Option, None, Some, IfSome, List, [], ◌∷◌, ◌++◌, length, set, refl, ap, sym, ◌∙◌, subst, arith}
-use Rattle.std.specs.Prelude.{slice_get, option_map, Vec}
+use Rattle.size_core.proofs.Prelude.{◌≡◌, ◌∙◌, ℕ, length, sym, ap, List, arith, subst, ◌+◌, ◌<◌, IfSome, Some, [], refl, ◌∷◌, Option, ◌++◌, suc, None, zero, Bool, ◌≢◌, set, ForSome, slice_get, option_map, Vec, Address, AreInside, address_in, Keys, Grows, IsHop, IsPath, AreUnused, unused_at, Has, Hop}
 use Rattle.std.specs.declared.alloc.Global.{Global}
-use Rattle.tree_defs.specs.Tree.{Address}
-use Rattle.size_core.specs.declared.hop.Hop.{Hop}
-use Rattle.std.specs.Option.{ForSome}
 use Rattle.size_core.specs.declared.node.Node.{Node}
-use Rattle.size_core.specs.Paths.{Keys, address_in, Grows, IsHop, IsPath}
-use Rattle.size_core.specs.Hops.{AreInside}
-use Rattle.size_core.specs.Watching.{Has}
-use Rattle.size_core.specs.Sizes.{unused_at}
-use Rattle.size_core.specs.Results.{AreUnused}
 
 -- one more item
 pub each_push : {A : Type 0} (P : ℕ → A → Type 0) (xs : List A) (x : A) → ((i : ℕ) → IfSome (slice_get xs i) (P i)) → P (length xs) x → (i : ℕ) → IfSome (slice_get (xs ++ x ∷ []) i) (P i)

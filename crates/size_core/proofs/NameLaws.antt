@@ -1,26 +1,12 @@
 -- The names of the policy's nodes that the nodes of a target serve.
-use Rattle.std.proofs.Common.{◌≡◌, ◌≢◌, ◌≤◌, ◌<◌, ◌+◌, ℕ, zero, suc, true, false, Option, None, Some, IfSome, List, [], ◌∷◌, ◌++◌, length, get_or, refl, ap, sym, ◌∙◌, subst, arith, inl, inr}
-use Rattle.std.specs.Prelude.{slice_get}
-use Rattle.std.specs.List.{range_with_len}
-use Rattle.std.proofs.lemmas.Bool.{cases_lt}
-use Rattle.std.specs.Prelude.{Vec, nat_eq}
+use Rattle.size_core.proofs.Prelude.{◌≡◌, ◌∙◌, ℕ, length, sym, ap, List, arith, subst, ◌+◌, ◌<◌, ◌≤◌, IfSome, Some, [], refl, ◌∷◌, Option, ◌++◌, suc, None, zero, false, true, get_or, inl, inr, ◌≢◌, cases_lt, eq-eqb, true≢false, range_with_len, AllByRecursion, slice_get, Vec, nat_eq, image_map, address_at, HasAt, Policy, Laid, Address, Tree, nodes, IsServed, IsImage, address_in, Keys, IsOnce, name_in, IsNameAt}
 use Rattle.std.specs.declared.alloc.Global.{Global}
-use Rattle.std.specs.List.{AllByRecursion, IsDistinct}
-use Rattle.std.proofs.lemmas.Bool.{eq-eqb, true≢false}
+use Rattle.std.specs.List.{IsDistinct}
 use lib.Pointwise.{pointwise}
-use Rattle.tree_defs.specs.Tree.{Tree, Address, nodes}
-use Rattle.policy_defs.specs.Policy.{Policy, Node}
+use Rattle.policy_defs.specs.Policy.{Node}
 use Rattle.policy_defs.specs.Numbers.{number_at}
-use Rattle.policy_core.specs.Numbering.{address_at}
 use Rattle.policy_core.proofs.NumberedAddresses.{IsNumber, IsAddress, number-undone, address-undone}
 use Rattle.policy_core.proofs.NodeNames.{name-found}
-use Rattle.embed_defs.specs.Images.{image_map}
-use Rattle.sched_embedded.specs.Laid.{Laid}
-use Rattle.size_core.specs.Paths.{Keys, address_in, IsOnce}
-use Rattle.size_core.specs.Sizes.{IsNameAt}
-use Rattle.size_core.specs.Results.{name_in}
-use Rattle.policy_core.specs.Numbering.{HasAt}
-use Rattle.size_core.specs.Names.{IsImage, IsServed}
 
 -- numbers, one more
 pub range-more : (a n : ℕ) → range_with_len a (n + 1) ≡ range_with_len a n ++ (a + n) ∷ []

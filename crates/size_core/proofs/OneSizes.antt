@@ -1,22 +1,11 @@
 -- A run has one result.
-use Rattle.std.proofs.Common.{◌≡◌, ◌≢◌, ◌≤◌, ◌<◌, ◌+◌, ℕ, zero, suc, Option, None, Some, IfSome, List, [], ◌∷◌, ◌++◌, length, map, refl, ap, sym, ◌∙◌, subst, arith, append_assoc, append-nil, length-append}
-use Rattle.std.specs.Prelude.{slice_get, option_map, unwrap_or}
-use Rattle.tree_defs.specs.Tree.{Tree, leaf, inner, Trees, none, more, Address, SameShape, subtree, subtree_in, root_of, IsAddressOf}
-use Rattle.tree_defs.specs.Topology.{Topology, topology_of, topologies_of, after, IsPrefixOf}
+use Rattle.size_core.proofs.Prelude.{◌≡◌, ◌∙◌, ℕ, length, sym, ap, List, arith, subst, ◌+◌, ◌<◌, ◌≤◌, IfSome, Some, [], refl, ◌∷◌, Option, ◌++◌, suc, None, zero, map, append_assoc, ◌≢◌, append-nil, length-append, slice_get, option_map, unwrap_or, image_map, image_at, Policy, name_at, Laid, after-append, after-is, after, IsPrefixOf, Topology, topologies_of, topology_of, Address, Tree, IsAddressOf, SameShape, Trees, inner, leaf, more, none, root_of, subtree, subtree_in, Line, IsNameAt, Sized, line_of, AreSizesOf, IsSizeOf, HasImage, Use, NodeSize, StoreUse}
 use Rattle.tree_defs.proofs.Shapes.{topology_of-same, same_shape}
-use Rattle.tree_defs.proofs.TopologyLaws.{after-is, after-append}
-use Rattle.policy_defs.specs.Policy.{Policy, name_at}
-use Rattle.embed_defs.specs.Images.{image_at, image_map}
 use Rattle.embed_defs.specs.Placed.{IsApartFrom}
 use Rattle.embed_defs.specs.GoodMaps.{IsDeep, AreDeep, IsNested, AreNested}
 use Rattle.embed_defs.proofs.Addresses.{one_prefix}
 use Rattle.embed_defs.proofs.Subtrees.{same_address}
-use Rattle.sched_embedded.specs.Laid.{Laid}
-use Rattle.size_core.specs.declared.size.NodeSize.{NodeSize}
-use Rattle.size_core.specs.declared.size.StoreUse.{StoreUse}
 use Rattle.size_core.specs.declared.size.Sizes as size
-use Rattle.size_core.specs.Use.{Use}
-use Rattle.size_core.specs.Sizes.{Sized, Line, HasImage, IsNameAt, IsSizeOf, AreSizesOf, line_of}
 use Rattle.size_core.specs.Laws.{Fits, SizesAreDetermined}
 
 -- ---- images

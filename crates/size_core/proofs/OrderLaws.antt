@@ -1,13 +1,5 @@
 -- The order of the nodes that have a push.
-use Rattle.std.proofs.Common.{◌≡◌, ◌≤◌, ◌<◌, ◌+◌, ℕ, zero, suc, nat_lt, Bool, true, false, cond, Option, None, Some, List, [], ◌∷◌, ◌++◌, length, map, filter, refl, ap, sym, ◌∙◌, subst, arith}
-use Rattle.std.specs.Prelude.{slice_get, take, unwrap_or}
-use Rattle.tree_defs.specs.Tree.{Address}
-use Rattle.size_core.specs.Use.{Use}
-use Rattle.size_core.specs.Paths.{Keys, address_in}
-use Rattle.size_core.specs.Places.{addresses}
-use Rattle.size_core.specs.Hops.{Uses}
-use Rattle.size_core.specs.Sizes.{Line, with_pushes}
-use Rattle.size_core.specs.Results.{figures_of, line_if, line_with, lines_of}
+use Rattle.size_core.proofs.Prelude.{◌≡◌, ◌∙◌, ℕ, length, sym, ap, List, arith, subst, ◌+◌, ◌<◌, ◌≤◌, Some, [], refl, ◌∷◌, Option, ◌++◌, suc, None, zero, map, Bool, false, true, nat_lt, take, cond, filter, slice_get, unwrap_or, Address, Uses, address_in, Keys, addresses, figures_of, lines_of, line_with, line_if, Line, with_pushes, Use}
 
 -- uses by index are those by address
 abbrev pub ArePushesAt : Keys → Uses → (Address → Use) → Type 0

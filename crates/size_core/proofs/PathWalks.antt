@@ -1,22 +1,6 @@
 -- A packet's path by index and by address.
-use Rattle.std.proofs.Common.{◌≡◌, ◌≢◌, ◌≤◌, ◌<◌, ◌+◌, ◌==◌, ℕ, zero, suc, nat_eq, Bool, true, false, if◌then◌else◌, Option, None, Some, IfSome, List, [], ◌∷◌, ◌++◌, length, map, take, drop, get_or, refl, ap, sym, ◌∙◌, subst, arith, inl, inr, append_assoc, append-nil}
-use Rattle.std.specs.Prelude.{slice_get, slice_index, option_map, unwrap_or}
-use Rattle.std.specs.Option.{option_map_or}
-use Rattle.std.proofs.lemmas.Bool.{eq-eqb, ne_eqb, eqb-true, eqb-false}
-use Rattle.tree_defs.specs.Tree.{Address, option_bind}
-use Rattle.tree_defs.specs.Topology.{after}
-use Rattle.tree_defs.proofs.TopologyLaws.{after-append, after-is}
-use Rattle.tree_defs.specs.Queue.{Entry}
-use Rattle.size_core.specs.declared.hop.Hop.{Hop}
-use Rattle.size_core.specs.declared.limits.Limits.{Limits}
+use Rattle.size_core.proofs.Prelude.{◌≡◌, ◌∙◌, ℕ, length, sym, ap, List, arith, subst, ◌+◌, ◌<◌, ◌≤◌, IfSome, Some, [], refl, ◌∷◌, Option, ◌++◌, suc, None, zero, map, Bool, false, true, append_assoc, get_or, inl, inr, ◌≢◌, if◌then◌else◌, drop, ◌==◌, take, append-nil, eq-eqb, ne_eqb, eqb-false, eqb-true, option_map_or, slice_get, option_map, unwrap_or, slice_index, nat_eq, after-append, after-is, Entry, after, Address, option_bind, Uses, Watched, passed_at, popped_along, pushed_along, rank_on, value_on, popped_at, pushed_at, first_of, passes, address_in, Keys, IsOnce, IsHop, IsPath, crossing_in, Crossing, crossing_along, entry_at, is_on, crossing_at, Use, pushed, popped, Hop, Limits, Passed}
 use Rattle.size_core.specs.declared.limits.Limit.{Limit}
-use Rattle.size_core.specs.declared.limits.Passed.{Passed}
-use Rattle.size_core.specs.Limits.{passes, first_of}
-use Rattle.size_core.specs.Use.{Use, pushed, popped}
-use Rattle.size_core.specs.Paths.{Keys, address_in, IsOnce, IsHop, IsPath}
-use Rattle.size_core.specs.Hops.{Uses, Watched, rank_on, value_on, passed_at, pushed_at, pushed_along, popped_at, popped_along}
-use Rattle.size_core.specs.Sizes.{Crossing, entry_at, is_on, crossing_at, crossing_along}
-use Rattle.size_core.specs.Results.{crossing_in}
 
 -- ---- paths from a node down
 -- the nodes from one at b down along the digits a, with the ranks there

@@ -1,13 +1,8 @@
 -- The addresses of nodes in the order of their indices.
-use Rattle.std.proofs.Common.{◌≡◌, ◌+◌, ◌||◌, ℕ, zero, suc, Bool, true, false, List, [], ◌∷◌, ◌++◌, length, map, refl, ap, sym, ◌∙◌, arith}
-use Rattle.std.specs.Prelude.{Vec, take, nat_eq, if◌then◌else◌}
+use Rattle.size_core.proofs.Prelude.{◌≡◌, ◌∙◌, ℕ, length, sym, ap, List, arith, ◌+◌, [], refl, ◌∷◌, ◌++◌, suc, zero, map, Bool, false, true, if◌then◌else◌, take, ◌||◌, list_any, Vec, nat_eq, Address, Keys, Grows, addresses, add_paths, add_prefixes, add, add_path}
 use Rattle.std.specs.declared.alloc.Global.{Global}
-use Rattle.std.specs.List.{list_any}
 use Rattle.std.specs.Cmp.Lexicographic.{pointwise}
 use Rattle.indexmap.specs.IndexSet.{insert_key}
-use Rattle.tree_defs.specs.Tree.{Address}
-use Rattle.size_core.specs.Paths.{Keys, Grows}
-use Rattle.size_core.specs.Places.{addresses, add, add_prefixes, add_path, add_paths}
 use Rattle.size_core.proofs.Lists.{grows-more}
 
 -- two keys with one address

@@ -1,17 +1,7 @@
 -- Uses of nodes, hop by hop.
-use Rattle.std.proofs.Common.{◌≡◌, ◌≢◌, ◌≤◌, ◌<◌, ◌+◌, ◌-◌, ◌==◌, ◌^◌, ℕ, zero, suc, nat_le, nat_lt, Bool, true, false, if◌then◌else◌, Option, None, Some, IfSome, List, [], ◌∷◌, ◌++◌, length, get_or, set, take, drop, refl, ap, sym, ◌∙◌, subst, arith, inl, inr, slice_get}
-use Rattle.std.proofs.lemmas.Bool.{eq-eqb, ne_eqb, lt-leb}
-use Rattle.std.proofs.lemmas.List.{take_all}
-use Rattle.size_core.specs.declared.hop.Hop.{Hop}
+use Rattle.size_core.proofs.Prelude.{◌≡◌, ◌∙◌, ℕ, length, sym, ap, List, arith, subst, ◌+◌, ◌<◌, ◌≤◌, IfSome, Some, [], refl, ◌∷◌, Option, ◌++◌, suc, None, zero, Bool, false, true, ◌-◌, get_or, inl, inr, nat_lt, ◌≢◌, if◌then◌else◌, set, drop, ◌==◌, ◌^◌, take, nat_le, eq-eqb, ne_eqb, lt-leb, take_all, slice_get, Queue, Uses, Watched, passed_at, popped_along, pushed_along, rank_on, value_on, popped_at, pushed_at, first_of, Use, pushed, Has, Follows, Hop, Limits, Passed}
 use Rattle.size_core.specs.declared.node.Node.{Node}
 use Rattle.size_core.specs.declared.queues.Queues.{Queues}
-use Rattle.size_core.specs.declared.limits.Limits.{Limits}
-use Rattle.size_core.specs.declared.limits.Passed.{Passed}
-use Rattle.size_core.specs.Limits.{first_of}
-use Rattle.tree_defs.specs.Queue.{Queue}
-use Rattle.size_core.specs.Use.{Use, pushed}
-use Rattle.size_core.specs.Hops.{Uses, Watched, rank_on, value_on, passed_at, pushed_at, pushed_along, popped_along, popped_at}
-use Rattle.size_core.specs.Watching.{Has, Follows}
 
 -- a list with an item is its first item and the others
 first-more : {A : Type 0} (xs : List A) (d : A) → 1 ≤ length xs → xs ≡ get_or xs 0 d ∷ take (length xs - 1) (drop 1 xs)

@@ -1,29 +1,13 @@
 -- The results of a sizing of a run are the sizes of the run's outcomes.
-use Rattle.std.proofs.Common.{◌≡◌, ◌≢◌, ◌≤◌, ◌<◌, ◌+◌, ◌*◌, ◌==◌, ◌⊎◌, ℕ, zero, suc, nat_lt, Bool, true, false, if◌then◌else◌, Option, None, Some, IfSome, Vec, Global, List, [], ◌∷◌, ◌++◌, length, map, refl, ap, sym, ◌∙◌, subst, arith, inl, inr}
-use Rattle.std.specs.Prelude.{slice_get, slice_index, option_map, unwrap_or}
-use Rattle.std.specs.Option.{option_map_or}
-use Rattle.tree_defs.specs.Tree.{Address, Popping, option_bind}
+use Rattle.size_core.proofs.Prelude.{◌≡◌, ◌∙◌, ℕ, length, sym, ap, List, arith, subst, ◌+◌, ◌<◌, ◌≤◌, IfSome, Some, [], refl, ◌∷◌, Option, ◌++◌, suc, None, zero, map, Bool, false, true, inl, inr, nat_lt, ◌≢◌, if◌then◌else◌, ◌==◌, ◌⊎◌, ◌*◌, option_map_or, slice_get, option_map, Vec, unwrap_or, slice_index, image_map, lift_ranks, Policy, sound_start, popped_is_held, sound_arrived, sound_departed, outcomes, Arrive, CanMake, Depart, Event, Outcome, departure, outcome, start, Leaver, SourceState, arrival_ranks, arrived, class_of, departed, dropped, is_full, leaver, leaving, left_from, left_with, Laid, leaf_of, Address, option_bind, Popping, Uses, Watched, popped_along, pushed_along, Lanes, lanes_in, watched_all, watched, first_of, address_in, Keys, IsOnce, IsPathTo, crossing_in, Sized, Crossing, crossing_along, entry_at, is_on, pop_sized, push_sized, sized, sized_all, Use, pushed, popped, Hop, Limits}
+use Rattle.std.proofs.Common.{Global}
 use Rattle.tree_defs.specs.SourceTree.{SourceTree, pop}
 use Rattle.packet_defs.specs.declared.packet.Packet.{Packet}
-use Rattle.policy_defs.specs.Policy.{Policy}
 use Rattle.policy_defs.specs.Accepted.{IsAccepted}
-use Rattle.sched_defs.specs.SourceState.{SourceState, Leaver, start, class_of, arrival_ranks, is_full, arrived, departed, dropped, pushed as state_pushed, left_from, left_with, leaving, leaver}
+use Rattle.sched_defs.specs.SourceState.{pushed as state_pushed}
 use Rattle.sched_defs.specs.Sound.{IsSound, IsAtItsLeaf}
 use Rattle.sched_defs.specs.Events as run
-use Rattle.sched_defs.specs.Events.{Event, Arrive, Depart, Outcome, departure, outcome, outcomes, CanMake}
-use Rattle.sched_defs.proofs.Soundness.{sound_start, sound_arrived, sound_departed, popped_is_held}
 use Rattle.sched_defs.proofs.Leaving.{arrives_at_a_leaf}
-use Rattle.embed_defs.specs.Images.{image_map}
-use Rattle.embed_defs.specs.Lift.{lift_ranks}
-use Rattle.sched_embedded.specs.Laid.{Laid, leaf_of}
-use Rattle.size_core.specs.declared.hop.Hop.{Hop}
-use Rattle.size_core.specs.declared.limits.Limits.{Limits}
-use Rattle.size_core.specs.Limits.{first_of}
-use Rattle.size_core.specs.Use.{Use, pushed, popped}
-use Rattle.size_core.specs.Paths.{Keys, address_in, IsOnce, IsPathTo}
-use Rattle.size_core.specs.Hops.{Uses, Watched, Lanes, lanes_in, pushed_along, popped_along, watched, watched_all}
-use Rattle.size_core.specs.Sizes.{Crossing, Sized, entry_at, is_on, crossing_along, push_sized, pop_sized, sized, sized_all}
-use Rattle.size_core.specs.Results.{crossing_in}
 use Rattle.size_core.proofs.UseLaws.{figures-popped}
 use Rattle.size_core.proofs.PathWalks.{Push, Leads, leads, uses_pushed, uses_popped, passed_pushed, passed_popped, on_path, off_path}
 

@@ -1,14 +1,7 @@
 -- The sizes of nodes, one by one.
-use Rattle.std.proofs.Common.{◌≡◌, ◌≢◌, ◌≤◌, ◌<◌, ◌+◌, ℕ, zero, suc, nat_lt, Option, None, Some, IfSome, List, [], ◌∷◌, ◌++◌, length, get_or, set, refl, ap, sym, ◌∙◌, subst, arith}
-use Rattle.std.specs.Prelude.{slice_get}
+use Rattle.size_core.proofs.Prelude.{◌≡◌, ◌∙◌, ℕ, length, sym, ap, List, arith, subst, ◌+◌, ◌<◌, ◌≤◌, IfSome, Some, [], refl, ◌∷◌, Option, ◌++◌, suc, None, zero, get_or, nat_lt, ◌≢◌, set, slice_get, Uses, Keys, figures_of, lines_of, line_with, line_if, Line, Use, Has, HaveUses}
 use Rattle.size_core.specs.declared.node.Node.{Node}
 use Rattle.size_core.specs.declared.node.Figures.{Figures}
-use Rattle.size_core.specs.Paths.{Keys}
-use Rattle.size_core.specs.Sizes.{Line}
-use Rattle.size_core.specs.Hops.{Uses}
-use Rattle.size_core.specs.Use.{Use}
-use Rattle.size_core.specs.Watching.{Has, HaveUses}
-use Rattle.size_core.specs.Results.{figures_of, line_if, line_with, lines_of}
 
 -- the items from an index on are those of another list
 abbrev pub IsSameFrom : ℕ → List Node → List Node → Type 0

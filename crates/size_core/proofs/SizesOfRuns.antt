@@ -1,24 +1,9 @@
 -- The results of a sizing of a run, from the uses of its nodes.
-use Rattle.std.proofs.Common.{◌≡◌, ◌≤◌, ◌<◌, ◌+◌, ◌*◌, ◌⊎◌, ℕ, zero, suc, Bool, Option, None, Some, IfSome, Vec, Global, List, [], ◌∷◌, ◌++◌, length, map, refl, ap, sym, ◌∙◌, subst, arith, inl, inr}
-use Rattle.std.specs.Prelude.{slice_get, option_map, unwrap_or}
-use Rattle.tree_defs.specs.Tree.{Address}
-use Rattle.policy_defs.specs.Policy.{Policy}
-use Rattle.sched_defs.specs.SourceState.{start}
-use Rattle.sched_defs.specs.Events.{outcomes}
-use Rattle.sched_defs.proofs.Soundness.{sound_start}
-use Rattle.sched_embedded.specs.Laid.{Laid, leaf_of}
-use Rattle.size_core.specs.declared.hop.Hop.{Hop}
+use Rattle.size_core.proofs.Prelude.{◌≡◌, ◌∙◌, ℕ, length, sym, ap, List, arith, subst, ◌+◌, ◌<◌, ◌≤◌, IfSome, Some, [], refl, ◌∷◌, Option, ◌++◌, suc, None, zero, map, Bool, inl, inr, ◌⊎◌, ◌*◌, slice_get, option_map, Vec, unwrap_or, Policy, sound_start, outcomes, start, Laid, leaf_of, Address, Watched, Lanes, lanes_in, watched_all, address_in, Keys, IsOnce, IsPathTo, addresses, places, figures_of, lines_of, AreUnused, line_with, crossing_in, name_in, HasSizes, IsUnused, Line, IsNameAt, Sized, line_of, unused_at, AreSizesOf, IsSizeOf, line_address, with_pushes, crossing_of, no_sizes, sizes_after, Use, Has, HaveUses, Watches, WatchesAll, lanes_of, Hop, Limits}
+use Rattle.std.proofs.Common.{Global}
 use Rattle.size_core.specs.declared.node.Node.{Node}
-use Rattle.size_core.specs.declared.limits.Limits.{Limits}
 use Rattle.size_core.specs.declared.size.Sizes as size
 use Rattle.size_core.specs.declared.sizing.Sizing.{Sizing}
-use Rattle.size_core.specs.Use.{Use}
-use Rattle.size_core.specs.Paths.{Keys, address_in, IsOnce, IsPathTo}
-use Rattle.size_core.specs.Places.{addresses, places}
-use Rattle.size_core.specs.Hops.{Watched, Lanes, lanes_in, watched_all}
-use Rattle.size_core.specs.Watching.{Has, HaveUses, Watches, WatchesAll, lanes_of}
-use Rattle.size_core.specs.Sizes.{Line, Sized, IsSizeOf, IsNameAt, AreSizesOf, unused_at, no_sizes, sizes_after, with_pushes, line_of, line_address, crossing_of}
-use Rattle.size_core.specs.Results.{AreUnused, IsUnused, HasSizes, crossing_in, figures_of, line_with, lines_of, name_in}
 use Rattle.size_core.specs.Laws.{SizesAreOfTheRun}
 use Rattle.size_core.proofs.Lists.{each_weaker, in_range}
 use Rattle.size_core.proofs.LineLists.{IsLineOf, each_line, line_there, line_once, known_at}

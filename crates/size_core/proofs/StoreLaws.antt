@@ -1,9 +1,7 @@
 -- Ranks in the stores of a node.
-use Rattle.std.proofs.Common.{◌≡◌, ◌≤◌, ◌<◌, ◌+◌, ◌-◌, ◌==◌, ℕ, zero, suc, nat_lt, max, Bool, true, false, if◌then◌else◌, List, [], ◌∷◌, ◌++◌, length, get_or, set, map, drop, replicate, Global, deque_items, deque_len, refl, ap, sym, ◌∙◌, subst, arith}
-use Rattle.std.proofs.lemmas.List.{get_or-map, length-map, map-set, length-append}
+use Rattle.size_core.proofs.Prelude.{◌≡◌, ◌∙◌, ℕ, length, sym, ap, List, arith, subst, ◌+◌, ◌<◌, ◌≤◌, [], refl, ◌∷◌, ◌++◌, suc, zero, map, Bool, false, true, ◌-◌, get_or, nat_lt, if◌then◌else◌, set, drop, ◌==◌, max, deque_items, deque_len, replicate, length-append, get_or-map, length-map, map-set, flow_of, store_popped, Stores, head_in, leads, store_pushed, heads_in, last_rank, flow_popped, flow_pushed, with_flow, with_spill, StoreUse}
+use Rattle.std.proofs.Common.{Global}
 use Rattle.std.specs.declared.collections.VecDeque.{VecDeque}
-use Rattle.size_core.specs.declared.size.StoreUse.{StoreUse}
-use Rattle.size_core.specs.Stores.{Stores, head_in, heads_in, last_rank, leads, flow_of, with_spill, with_flow, flow_pushed, flow_popped, store_pushed, store_popped}
 
 -- the last rank is the one at the last index
 pub last_is : (s : List ℕ) (d : ℕ) → 0 < length s → get_or s (length s - 1) d ≡ last_rank s

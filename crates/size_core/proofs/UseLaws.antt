@@ -1,13 +1,6 @@
 -- The use of a queue, push by push and pop by pop.
-use Rattle.std.proofs.Common.{◌≡◌, ◌≤◌, ◌<◌, ◌+◌, ◌-◌, ◌==◌, ℕ, zero, suc, nat_le, max, min, Bool, true, false, if◌then◌else◌, Option, None, Some, List, [], ◌∷◌, ◌++◌, length, get_or, set, drop, refl, ap, sym, ◌∙◌, subst, arith, inl, inr}
-use Rattle.std.proofs.lemmas.Bool.{cases_lt, ne_eqb}
-use Rattle.tree_defs.specs.Queue.{Entry, Queue, Taking, put, sooner, take_from, take_least}
+use Rattle.size_core.proofs.Prelude.{◌≡◌, ◌∙◌, ℕ, length, sym, ap, List, arith, subst, ◌+◌, ◌<◌, ◌≤◌, Some, [], refl, ◌∷◌, Option, ◌++◌, suc, None, zero, Bool, false, true, ◌-◌, get_or, inl, inr, if◌then◌else◌, set, drop, ◌==◌, max, min, nat_le, cases_lt, ne_eqb, option_map, Queue, Entry, Taking, put, take_least, sooner, take_from, figures_of, flow_of, store_popped, Stores, leads, Use, popped, spread, highest, lowest_from, taken, Has, IsCrest}
 use Rattle.tree_defs.proofs.TakeLeast.{NoneBelow, NoneBelow-le, take_from-front, take_from-behind, take_from-least}
-use Rattle.std.specs.Prelude.{option_map}
-use Rattle.size_core.specs.Stores.{Stores, leads, flow_of, store_popped}
-use Rattle.size_core.specs.Use.{Use, highest, lowest_from, spread, taken, popped}
-use Rattle.size_core.specs.Results.{figures_of}
-use Rattle.size_core.specs.Watching.{IsCrest, Has}
 use Rattle.size_core.specs.declared.node.Node.{Node}
 
 -- ---- pushes

@@ -1,14 +1,6 @@
 -- The end of a study.
-use Rattle.std.proofs.Common.{◌≡◌, refl, ap, ℕ, Option, List, inl, inr}
-use Rattle.std.specs.Prelude.{Result, Ok, Err}
-use Rattle.outside_core.specs.declared.stop.Stop.{Stop}
-use Rattle.replay_app.specs.Statuses.{status_code}
+use Rattle.study.proofs.Prelude.{ap, ◌≡◌, refl, List, inl, ℕ, Option, inr, Err, Ok, Result, Stop, is_stop, status_code, Status, LateStart, IsSummedUp, IsToldOr}
 use Rattle.replay_app.specs.Stops.{stop_status}
-use Rattle.replay_app.specs.declared.status.Status.{Status}
-use Rattle.replay_app.specs.declared.status.Status.TheVariants.{LateStart}
-use Rattle.replay_app.proofs.AnswerLaws.{is_stop}
-use Rattle.study.specs.Files.{IsSummedUp}
-use Rattle.study.specs.SumRuns.{IsToldOr}
 use Rattle.study.specs.Studied.{IsStudied, IsAnswered}
 use Rattle.study.specs.declared.parts.Study.{Study}
 

@@ -1,32 +1,14 @@
 -- Runs whose outcomes are written as JSON lines.
-use Rattle.std.proofs.Common.{◌≡◌, ◌∙◌, sym, ap, subst, ℕ, Option, None, Some, List, inl, inr}
-use Rattle.std.specs.Prelude.{Result, Ok, Err, IfSome, IfOk, OnOk, OnErr}
+use Rattle.study.proofs.Prelude.{ap, ◌∙◌, ◌≡◌, List, inl, ℕ, Option, None, Some, sym, inr, subst, Err, Ok, Result, IfOk, IfSome, OnErr, OnOk, appended_nothing, prefix_of_nothing, Appended, AppendedPrefix, Stop, Resolved, same_status, exactly_told, IsTold, ending_status, run_status, Status, RunAnswer, paced_answer, Event, Outcome, outcomes, Pace, Captured, start, Ending, HasRecordedPart, IsPartOf, IsRefusedRun, IsWholeRun}
 use Rattle.outside_core.specs.Kept.{Begins}
-use Rattle.outside_core.specs.Written.{Appended, AppendedPrefix}
-use Rattle.outside_core.specs.declared.stop.Stop.{Stop}
-use Rattle.outside_core.proofs.WrittenLaws.{appended_nothing, prefix_of_nothing}
 use Rattle.outside_core.specs.Text.{IsCut}
 use Rattle.report_core.specs.Gathered.{text_of}
-use Rattle.policy_rules.specs.Resolved.{Resolved}
-use Rattle.sched_defs.specs.SourceState.{start}
-use Rattle.sched_defs.specs.Events.{Event, Outcome, outcomes}
-use Rattle.sched_defs.specs.Packets.{Captured}
-use Rattle.sched_defs.specs.Pace.{Pace}
-use Rattle.sched_defs.specs.declared.ending.Ending.{Ending}
 use Rattle.sched_run.specs.declared.recorder.Recorder as recorder
-use Rattle.sched_capture.specs.Answers.{RunAnswer, paced_answer}
-use Rattle.study.specs.Recorded.{IsWholeRun, IsRefusedRun, IsPartOf, HasRecordedPart}
 use Rattle.event_json.specs.Json.{json_end, json_text}
 use Rattle.event_json.specs.JsonReports.{RecordsNothing}
 use Rattle.event_json.specs.Recording.{AddsJson, CutsJson}
 use Rattle.event_json.specs.declared.json.JsonReport.{JsonReport}
 use Rattle.event_json.proofs.WholeRuns.{whole_run, cut_at_the_end, cut_before_the_end}
-use Rattle.replay_app.specs.Answer.{IsTold}
-use Rattle.replay_app.specs.Scripts.{ending_status}
-use Rattle.replay_app.specs.Statuses.{run_status}
-use Rattle.replay_app.specs.declared.status.Status.{Status}
-use Rattle.replay_app.proofs.AnswerLaws.{same_status}
-use Rattle.replay_app.proofs.FollowLaws.{exactly_told}
 use Rattle.study.specs.JsonRuns.{rate_in, json_or, json_run}
 
 -- nothing is read or written yet

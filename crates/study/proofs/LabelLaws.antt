@@ -1,12 +1,9 @@
 -- Labels of leaves and classes, one by one.
-use Rattle.std.proofs.Common.{◌≡◌, ◌<◌, ◌≤◌, ◌+◌, ℕ, zero, suc, Bool, true, false, Option, None, Some, List, [], ◌∷◌, ◌++◌, length, map, take, get_or, refl, sym, ap, ◌∙◌, subst, arith, append-nil, append_assoc}
-use Rattle.std.specs.Prelude.{IsSomeAnd}
+use Rattle.study.proofs.Prelude.{ap, ◌∙◌, ◌≡◌, refl, List, ℕ, Option, None, Some, sym, ◌∷◌, [], ◌++◌, map, arith, length, take, ◌+◌, Bool, append-nil, false, get_or, true, ◌<◌, ◌≤◌, append_assoc, suc, zero, IsSomeAnd, number_at, Policy, Node, node_at, Label, Tree, Address, LeadsBelow, LeadsToLeaf, Trees, inner, leaf, more, nodes, none, leaf_index, class_labels, held_labels, leaf_labels, leaf_table, class_label, is_leaf_at, is_leaf_below, label_of, leaf_label}
 use Rattle.std.specs.List.{AllByRecursion}
 use Rattle.std.proofs.lemmas.List.{length-append, take_more}
 use Rattle.std.proofs.lemmas.Bool.{cond-true, cond-false}
-use Rattle.tree_defs.specs.Tree.{Tree, leaf, inner, Trees, none, more, Address, LeadsToLeaf, LeadsBelow, nodes}
-use Rattle.policy_defs.specs.Policy.{Policy, Class as Aimed, Node, node_at}
-use Rattle.policy_defs.specs.Numbers.{number_at}
+use Rattle.policy_defs.specs.Policy.{Class as Aimed}
 use Rattle.policy_core.specs.Numbering.{address_at, HasAt}
 use Rattle.policy_core.specs.Parts.{told, class_in}
 use Rattle.policy_core.specs.declared.parts.Marks.{Marks}
@@ -14,8 +11,6 @@ use Rattle.policy_core.specs.declared.parts.Class.{Class}
 use Rattle.policy_core.proofs.NumberedAddresses.{address-undone}
 use Rattle.policy_text_defs.specs.declared.statement.Statement.TheVariants as statement
 use Rattle.policy_text.specs.Entries.{Numbered, entry_of}
-use Rattle.study.specs.Labels.{is_leaf_at, is_leaf_below, label_of, leaf_label, leaf_labels, leaf_index, leaf_table, class_label, class_labels, held_labels}
-use Rattle.summary_core.specs.declared.group.Label.{Label}
 
 -- ---- a leaf at an address
 mutual

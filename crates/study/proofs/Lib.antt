@@ -1,3 +1,4 @@
+pub mod Prelude
 pub mod RecordedRuns
 pub mod RunLaws
 pub mod JsonLaws

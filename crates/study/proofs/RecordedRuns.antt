@@ -1,20 +1,7 @@
 -- A run with another recorder than a report.
-use Rattle.std.proofs.Common.{◌≡◌, ◌+◌, ℕ, Option, None, Some, Result, Ok, Err, List, [], ◌++◌, inl, inr, refl, sym, ap, ◌∙◌, subst}
-use Rattle.std.specs.Prelude.{IfSome, IfOk, OnOk, OnErr}
-use Rattle.outside_core.specs.Written.{Appended, AppendedPrefix}
-use Rattle.outside_core.specs.declared.stop.Stop.{Stop}
-use Rattle.outside_core.proofs.WrittenLaws.{prefix_of_nothing, appended_nothing}
-use Rattle.outside_core.specs.Text.{appended}
+use Rattle.study.proofs.Prelude.{ap, ◌∙◌, ◌≡◌, refl, List, inl, ℕ, Option, None, Some, sym, inr, subst, ◌++◌, ◌+◌, IfSome, appended_nothing, prefix_of_nothing, IsAccepted, Policy, Resolved, paced_answer, IsRefusal, IsRefusalPart, answer_of, answer_over, Event, Outcome, outcomes, CanMake, after, Captured, AreThere, Left, start, Ending, pace_of, HasRecordedPart, AreCutShort, AreRecorded, HasRecorded}
 use Rattle.pcap_defs.specs.Contents.{FileContents, no_capture, holds}
 use Rattle.pcapng_defs.specs.NgContents.{in_file}
-use Rattle.policy_defs.specs.Policy.{Policy}
-use Rattle.policy_defs.specs.Accepted.{IsAccepted}
-use Rattle.policy_rules.specs.Resolved.{Resolved}
-use Rattle.sched_defs.specs.SourceState.{start}
-use Rattle.sched_defs.specs.Events.{Event, Outcome, after, outcomes, CanMake}
-use Rattle.sched_defs.specs.Pace.{Pace}
-use Rattle.sched_defs.specs.Packets.{Left, Captured, AreThere}
-use Rattle.sched_defs.specs.declared.ending.Ending.{Ending}
 use Rattle.sched_defs.proofs.Soundness.{sound_start}
 use Rattle.sched_defs.proofs.Runs.{outcomes-append}
 use Rattle.sched_core.specs.declared.scheduler.Scheduler.{Ghosts}
@@ -23,15 +10,11 @@ use Rattle.sched_run.specs.declared.recorder.Recorder as recorder
 use Rattle.sched_run.specs.declared.pace.Pace as code
 use Rattle.sched_run.specs.Recording.{AreJoined}
 use Rattle.sched_run.specs.Heard.{heard}
-use Rattle.sched_run.specs.Stages.{Stage, event_of, FromEach, Makes, Stops}
+use Rattle.sched_run.specs.Stages.{Stage, event_of, FromEach}
 use Rattle.sched_run.specs.Turns.{AreFirst, StopsAmid}
 use Rattle.sched_run.specs.Courses.{course_of, IsCourse, Courses}
-use Rattle.sched_run.specs.Steps.{pace_of}
 use Rattle.sched_run.proofs.StartLaws.{start_can_begin}
 use Rattle.sched_run.proofs.MadeEvents.{can_make}
-use Rattle.sched_capture.specs.Answers.{RunAnswer, IsRefusal, IsRefusalPart, answer_of, answer_over, paced_answer}
-use Rattle.study.specs.Recorded.{AreRecorded, AreCutShort, IsPartOf, HasRecorded, HasRecordedPart}
-use Rattle.study.specs.declared.recorded.Recorded.{Recorded}
 use Rattle.study.specs.declared.recorded.Recorded.TheVariants.{Whole, Refused}
 
 -- ---- over the packets left

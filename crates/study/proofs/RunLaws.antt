@@ -1,21 +1,9 @@
 -- Runs over a capture that may be known to the contract.
-use Rattle.std.proofs.Common.{◌≡◌, ap, ℕ, Option, None, Some, List}
-use Rattle.std.specs.Prelude.{Result, Ok, Err, IfSome, IfOk}
-use Rattle.outside_core.specs.Written.{Appended, AppendedPrefix}
-use Rattle.outside_core.specs.declared.stop.Stop.{Stop}
-use Rattle.outside_core.proofs.WrittenLaws.{appended_nothing, prefix_of_nothing}
-use Rattle.policy_rules.specs.Resolved.{Resolved}
-use Rattle.sched_defs.specs.declared.ending.Ending.{Ending}
+use Rattle.study.proofs.Prelude.{ap, ◌≡◌, List, ℕ, Option, None, Some, Err, Ok, Result, IfOk, IfSome, appended_nothing, prefix_of_nothing, Appended, AppendedPrefix, Stop, Resolved, pace_ends, exactly_told, IsTold, Answer, run_status, status_code, IsOneOf, pace_statuses, forward_status, Status, Ending, CanEndSo}
 use Rattle.sched_defs.specs.declared.rate.LinkRate.{LinkRate}
-use Rattle.sched_run.specs.Steps.{CanEndSo}
 use Rattle.sched_run.specs.declared.pace.Pace as code
 use Rattle.sched_capture.specs.Forwards.{forward_answer}
 use Rattle.sched_capture.specs.declared.departures.ForwardEnding.{ForwardEnding}
-use Rattle.replay_app.specs.Answer.{Answer, IsTold}
-use Rattle.replay_app.specs.Statuses.{IsOneOf, pace_statuses, run_status, status_code, forward_status}
-use Rattle.replay_app.specs.declared.status.Status.{Status}
-use Rattle.replay_app.proofs.AnswerLaws.{pace_ends}
-use Rattle.replay_app.proofs.FollowLaws.{exactly_told}
 use Rattle.study.specs.Studied.{departures}
 
 module _ (policy : Resolved) (old new : Option (List ℕ)) where

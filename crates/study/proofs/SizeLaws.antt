@@ -1,41 +1,16 @@
 -- Runs that say how large the target's queues get.
-use Rattle.std.proofs.Common.{◌≡◌, ◌⊎◌, ◌∙◌, refl, sym, ap, subst, inl, inr, ℕ, Option, None, Some, List, [], ◌∷◌, ◌++◌}
-use Rattle.std.specs.Prelude.{Result, Ok, Err, IfSome, IfOk, OnOk, OnErr}
-use Rattle.outside_core.specs.Written.{Appended, AppendedPrefix}
-use Rattle.outside_core.specs.declared.stop.Stop.{Stop}
-use Rattle.outside_core.proofs.WrittenLaws.{appended_nothing, prefix_of_nothing}
-use Rattle.policy_defs.specs.Policy.{Policy}
-use Rattle.policy_defs.specs.Accepted.{IsAccepted}
-use Rattle.policy_rules.specs.Resolved.{Resolved}
-use Rattle.sched_defs.specs.SourceState.{start}
-use Rattle.sched_defs.specs.Events.{Event, Outcome, CanMake, outcomes}
-use Rattle.sched_defs.specs.Packets.{Captured}
-use Rattle.sched_defs.specs.Pace.{Pace}
-use Rattle.sched_defs.specs.declared.ending.Ending.{Ending}
+use Rattle.study.proofs.Prelude.{ap, ◌∙◌, ◌≡◌, refl, List, inl, ℕ, Option, None, Some, sym, ◌∷◌, [], inr, subst, ◌++◌, Err, Ok, Result, IfOk, IfSome, OnErr, OnOk, appended_nothing, prefix_of_nothing, Appended, AppendedPrefix, Stop, IsAccepted, Policy, Resolved, pace_ends, same_status, IsTold, Answer, text_alone, ending_status, run_status, status_code, IsOneOf, pace_statuses, Status, RunAnswer, paced_answer, Event, Outcome, outcomes, CanMake, Pace, Captured, start, Ending, CanEndSo, Fits, Overflow, Sizes, HasRecordedPart, IsPartOf, IsRefusedRun, IsWholeRun, shown, AreRunSizes, IsSized, size_status, sized, ending_line, Form}
 use Rattle.sched_defs.specs.declared.ending.Ending.TheVariants.{Whole, BadCapture, PastLast}
 use Rattle.sched_run.specs.declared.recorder.Recorder as recorder
-use Rattle.sched_run.specs.Steps.{CanEndSo}
 use Rattle.sched_run.specs.declared.pace.Pace as code
 use Rattle.sched_embedded.specs.Laid.{Laid}
-use Rattle.sched_capture.specs.Answers.{RunAnswer, paced_answer}
-use Rattle.size_core.specs.declared.limits.Overflow.{Overflow}
-use Rattle.size_core.specs.declared.size.Sizes.{Sizes}
 use Rattle.size_core.specs.declared.sizing.Sizing.{Sizing}
 use Rattle.size_core.specs.Hops.{Watched}
-use Rattle.size_core.specs.Laws.{Fits}
 use Rattle.size_core.specs.Recording.{RecordsUses}
 use Rattle.size_core.specs.Results.{IsUnused, HasSizes}
 use Rattle.size_core.specs.Watching.{Watches}
-use Rattle.replay_app.specs.Answer.{Answer, IsTold, text_alone}
-use Rattle.replay_app.specs.Scripts.{ending_status}
-use Rattle.replay_app.specs.Statuses.{IsOneOf, pace_statuses, run_status, status_code}
-use Rattle.replay_app.specs.declared.status.Status.{Status}
-use Rattle.replay_app.proofs.AnswerLaws.{same_status, pace_ends}
-use Rattle.study.specs.Recorded.{IsWholeRun, IsRefusedRun, IsPartOf, HasRecordedPart}
-use Rattle.study.specs.SumRuns.{ending_line}
-use Rattle.study.specs.SizeRuns.{IsSized, none_begun, sized, AreRunSizes, shown, size_status}
+use Rattle.study.specs.SizeRuns.{none_begun}
 use Rattle.study.specs.declared.parts.Measure.{Measure}
-use Rattle.study.specs.declared.sums.Form.{Form}
 use Rattle.size_core.proofs.OneSizes.{sizes-determined}
 use Rattle.size_core.proofs.SizesOfRuns.{sizes_are_of_the_run}
 use Rattle.study.proofs.SizeTexts.{same_shown}

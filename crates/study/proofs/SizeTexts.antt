@@ -1,19 +1,13 @@
 -- The text of sizes, in each form, is determined by their lines.
-use Rattle.std.proofs.Common.{◌≡◌, ◌+◌, ◌*◌, ◌-◌, ◌^◌, min, ℕ, Option, None, Some, List, [], ◌∷◌, ◌++◌, map, refl, sym, ap, ◌∙◌, arith, sum_by}
-use Rattle.std.specs.Prelude.{option_map, codes}
+use Rattle.study.proofs.Prelude.{ap, ◌∙◌, ◌≡◌, refl, List, ℕ, Option, None, Some, sym, ◌∷◌, [], ◌++◌, map, ◌+◌, min, sum_by, ◌*◌, ◌-◌, ◌^◌, codes, option_map, Overflow, Sizes, shown, Form, Json, Text}
 use Rattle.std.proofs.lemmas.List.Sums.{sum_by-cons}
-use Rattle.size_core.specs.declared.limits.Overflow.{Overflow}
 use Rattle.size_core.specs.declared.memory.Widths.{Widths}
 use Rattle.size_core.specs.declared.size.NodeSize.{NodeSize}
-use Rattle.size_core.specs.declared.size.Sizes.{Sizes}
 use Rattle.size_core.specs.Numbers.{number_text}
 use Rattle.size_core.specs.Memory.{queue_bits, memory_of}
 use Rattle.size_core.specs.Sizes.{Line, line_of, Crossing, crossing_of}
-use Rattle.size_core.specs.Text.{address_text, serves_text, counts_text, field_text, queue_text, stores_text, node_text, nodes_text, memory_text, widths_text, limit_text, push_text, passed_text, sizes_text}
-use Rattle.size_core.specs.Json.{address_json, serves_json, counts_json, field_json, queue_json, stores_json, node_json, more_json, nodes_json, memory_json, event_json, limit_json, push_json, passed_json, sizes_json}
-use Rattle.study.specs.SizeRuns.{shown}
-use Rattle.study.specs.declared.sums.Form.{Form}
-use Rattle.study.specs.declared.sums.Form.TheVariants.{Text, Json}
+use Rattle.size_core.specs.Text.{address_text, serves_text, counts_text, field_text, queue_text, stores_text, node_text, nodes_text, memory_text, widths_text, limit_text, push_text, passed_text}
+use Rattle.size_core.specs.Json.{address_json, serves_json, counts_json, field_json, queue_json, stores_json, node_json, more_json, nodes_json, memory_json, event_json, limit_json, push_json, passed_json}
 
 -- ---- one node
 abbrev line_text : Line → List ℕ

@@ -1,29 +1,13 @@
 -- Runs that are summed up.
-use Rattle.std.proofs.Common.{◌≡◌, ◌⊎◌, ◌≤◌, ◌∙◌, refl, sym, ap, subst, arith, inl, inr, ℕ, true, false, Bool, Option, None, Some, List, [], ◌∷◌, ◌++◌, length, map}
-use Rattle.std.specs.Prelude.{Vec, Result, Ok, Err, IfSome, IfOk, OnOk, OnErr, IsTrue, codes}
+use Rattle.study.proofs.Prelude.{ap, ◌∙◌, ◌≡◌, refl, List, inl, ℕ, Option, None, Some, sym, ◌∷◌, [], inr, subst, ◌++◌, arith, length, ◌≤◌, ◌⊎◌, Err, Ok, Result, IfOk, IfSome, OnErr, OnOk, codes, IsTrue, Vec, appended_nothing, prefix_of_nothing, Appended, AppendedPrefix, Stop, IsAccepted, number_at, Node, AreClassesOf, Declared, classes_in, pace_ends, same_status, IsTold, Answer, text_alone, IsPolicy, Judged, ending_status, run_status, status_code, IsOneOf, pace_statuses, Status, LateStart, RunAnswer, paced_answer, Event, Outcome, outcomes, CanMake, Pace, Captured, start, Ending, CanEndSo, Label, Tree, leaf_index, class_labels, leaf_table, all_leaf_labels, HasRecordedPart, IsPartOf, IsRefusedRun, IsWholeRun, IsToldOr, ending_line, AreRunSums, AreSumsWritten, HasNames, IsSummed, IsTextOf, LacksRoom, render, sum_rate, summed, Form, Json, Text}
 use Rattle.std.proofs.lemmas.List.{length-map}
 use Rattle.std.specs.declared.alloc.Global.{Global}
 use Rattle.std.specs.declared.alloc.AllocError.{AllocError}
-use Rattle.outside_core.specs.Written.{Appended, AppendedPrefix}
-use Rattle.outside_core.specs.declared.stop.Stop.{Stop}
-use Rattle.outside_core.proofs.WrittenLaws.{appended_nothing, prefix_of_nothing}
 use Rattle.policy_text_defs.specs.Sense.{Entry}
-use Rattle.tree_defs.specs.Tree.{Tree}
-use Rattle.policy_defs.specs.Policy.{Policy, Node, Class}
-use Rattle.policy_defs.specs.Numbers.{number_at}
-use Rattle.policy_defs.specs.Accepted.{IsAccepted}
-use Rattle.policy_rules.specs.Resolved.{Resolved, Declared, AreClassesOf, classes_in}
-use Rattle.sched_defs.specs.SourceState.{start}
-use Rattle.sched_defs.specs.Events.{Event, Outcome, CanMake, outcomes}
-use Rattle.sched_defs.specs.Packets.{Captured}
-use Rattle.sched_defs.specs.Pace.{Pace}
-use Rattle.sched_defs.specs.declared.ending.Ending.{Ending}
+use Rattle.policy_defs.specs.Policy.{Class}
 use Rattle.sched_run.specs.declared.recorder.Recorder as recorder
-use Rattle.sched_run.specs.Steps.{CanEndSo}
 use Rattle.sched_run.specs.declared.pace.Pace as code
-use Rattle.sched_capture.specs.Answers.{RunAnswer, paced_answer}
 use Rattle.summary_core.specs.declared.group.Groups.{Groups}
-use Rattle.summary_core.specs.declared.group.Label.{Label}
 use Rattle.summary_core.specs.declared.summary.Summary.{Summary}
 use Rattle.summary_core.specs.Figures.{HasGroups}
 use Rattle.summary_core.specs.Json.{figures_json, array_json, end_json}
@@ -33,18 +17,7 @@ use Rattle.summary_core.specs.Text.{figures_text, groups_text, fairness_text}
 use Rattle.summary_core.proofs.GroupsOnce.{sums_once}
 use Rattle.summary_core.specs.OfRun.{AreSame}
 use Rattle.summary_core.proofs.RunGroups.{groups_are_of_the_run}
-use Rattle.replay_app.specs.Answer.{Answer, Each, IsTold, text_alone}
-use Rattle.replay_app.specs.Policies.{Judged, IsPolicy}
-use Rattle.replay_app.specs.Scripts.{ending_status}
-use Rattle.replay_app.specs.Statuses.{IsOneOf, pace_statuses, run_status, status_code}
-use Rattle.replay_app.specs.declared.status.Status.{Status}
-use Rattle.replay_app.specs.declared.status.Status.TheVariants.{LateStart}
-use Rattle.replay_app.proofs.AnswerLaws.{same_status, pace_ends}
-use Rattle.study.specs.Labels.{leaf_index, leaf_table, all_leaf_labels, class_labels}
-use Rattle.study.specs.Recorded.{IsWholeRun, IsRefusedRun, IsPartOf, HasRecordedPart}
-use Rattle.study.specs.SumRuns.{IsToldOr, LacksRoom, IsSummed, none_begun, summed, AreRunSums, HasNames, IsTextOf, AreSumsWritten, render, sum_rate, ending_line}
-use Rattle.study.specs.declared.sums.Form.{Form}
-use Rattle.study.specs.declared.sums.Form.TheVariants.{Text, Json}
+use Rattle.study.specs.SumRuns.{none_begun}
 
 -- ---- one of the outputs, or sums without room
 pub or_told : (sums : Type 0) {P Q : Answer → Type 0} {r : Result Status Stop} {old new : Option (List ℕ)} → (IsTold P r old new → IsTold Q r old new) → IsToldOr sums P r old new → IsToldOr sums Q r old new

@@ -1,5 +1,5 @@
 -- The files that a study reads, and the statuses with which it can end.
-use Rattle.std.specs.Prelude.{◌≡◌, refl, ◌⊎◌, ℕ, Option, None, Some, option_map, List, [], ◌∷◌, codes}
+use Rattle.std.specs.Prelude.{◌⊎◌, ℕ, Option, None, Some, option_map, List, [], ◌∷◌}
 use Rattle.sched_defs.specs.SendTime.{IsRate}
 use Rattle.replay_app.specs.Statuses.{IsOneOf, IsStop, run_statuses, link_statuses, forward_statuses}
 use Rattle.study.specs.declared.parts.Drive.{Drive}

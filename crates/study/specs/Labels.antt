@@ -1,5 +1,5 @@
 -- The names and weights of a policy's leaves and classes.
-use Rattle.std.specs.Prelude.{◌≡◌, ◌<◌, refl, ℕ, zero, suc, Bool, true, false, if◌then◌else◌, Option, None, Some, unwrap_or, List, [], ◌∷◌, ◌++◌, length, map, flat_map, slice_index_or}
+use Rattle.std.specs.Prelude.{◌≡◌, ◌<◌, ℕ, zero, suc, Bool, true, false, if◌then◌else◌, Option, None, Some, unwrap_or, List, [], ◌∷◌, ◌++◌, length, map, slice_index_or}
 use Rattle.tree_defs.specs.Tree.{Tree, leaf, inner, Trees, none, more, Address, nodes}
 use Rattle.policy_text_defs.specs.declared.statement.Statement.{Statement}
 use Rattle.policy_text_defs.specs.declared.statement.Statement.TheVariants as statement

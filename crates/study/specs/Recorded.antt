@@ -1,19 +1,13 @@
 -- Runs whose outcomes are recorded in another form than a report.
-use Rattle.std.specs.Prelude.{◌≡◌, ◌⊎◌, ℕ, Bool, Option, None, Some, List, []}
+use Rattle.std.specs.Prelude.{◌≡◌, ◌⊎◌, ℕ, Option, None, Some, List, []}
 use Rattle.outside_core.specs.Written.{Appended, AppendedPrefix}
 use Rattle.policy_defs.specs.Policy.{Policy}
 use Rattle.sched_defs.specs.SourceState.{start}
 use Rattle.sched_defs.specs.Events.{Event, outcomes, CanMake}
 use Rattle.sched_defs.specs.Packets.{Captured}
 use Rattle.sched_defs.specs.declared.ending.Ending.{Ending}
-use Rattle.sched_core.specs.declared.scheduler.Scheduler as scheduler
-use Rattle.sched_capture.specs.CapturePackets.{policy_of, given_by, IsReady}
-use Rattle.sched_capture.specs.declared.capture_packets.CapturePackets.{CapturePackets}
 use Rattle.sched_run.specs.declared.recorder.Recorder as recorder
-use Rattle.sched_run.specs.declared.run.Run.{Run}
 use Rattle.sched_run.specs.Recording.{Recording, Cutting}
-use Rattle.sched_run.specs.Frames.{IsSet}
-use Rattle.sched_run.specs.Stages.{IsFresh}
 use Rattle.sched_capture.specs.Answers.{RunAnswer}
 use Rattle.study.specs.declared.recorded.Recorded.{Recorded}
 use Rattle.study.specs.declared.recorded.Recorded.TheVariants.{Whole, Refused}

@@ -1,6 +1,5 @@
 -- Lists of groups that grow.
-use Rattle.std.proofs.Common.{ℕ, zero, suc, List, [], ◌∷◌, ◌++◌, length, IfSome}
-use Rattle.std.specs.Prelude.{slice_get}
+use Rattle.summary_core.proofs.Prelude.{ℕ, length, List, [], ◌∷◌, suc, zero, ◌++◌, IfSome, slice_get}
 
 -- a fact of each item, with one more item
 pub each_push : {X : Type 0} (P : ℕ → X → Type 0) (xs : List X) (x : X) → ((i : ℕ) → IfSome (slice_get xs i) (P i)) → P (length xs) x → (i : ℕ) → IfSome (slice_get (xs ++ x ∷ []) i) (P i)

@@ -1,24 +1,7 @@
 -- The groups of a run, and the text of each rendering, are determined by its outcomes.
-use Rattle.std.proofs.Common.{◌≡◌, ◌+◌, ℕ, suc, Option, None, Some, List, [], ◌∷◌, map, refl, sym, ap, ◌∙◌, subst, arith}
-use Rattle.std.specs.Prelude.{IfSome, slice_get}
-use Rattle.sched_defs.specs.Events.{Outcome}
-use Rattle.sched_defs.specs.declared.rate.LinkRate.{LinkRate}
-use Rattle.summary_core.specs.declared.delays.Delays.{Delays}
-use Rattle.summary_core.specs.declared.group.Figures.{Figures}
-use Rattle.summary_core.specs.declared.group.Group.{Group}
-use Rattle.summary_core.specs.declared.group.Groups.{Groups}
-use Rattle.summary_core.specs.declared.group.Label.{Label}
-use Rattle.summary_core.specs.declared.part.Kind.{Kind}
+use Rattle.summary_core.proofs.Prelude.{ℕ, ◌≡◌, arith, List, ap, ◌∙◌, sym, [], ◌∷◌, refl, suc, ◌+◌, subst, Some, Option, IfSome, None, map, slice_index_or, slice_get, Outcome, LinkRate, fairness_of, HasPercentiles, delays_of, AreFiguresOf, AreSame, AreSumsOf, part_at, ArePercentiles, value_at, ClassEvent, class_events, Delays, Figures, Group, Groups, Label, Kind, Part}
 use Rattle.summary_core.specs.declared.part.Kind.TheVariants as kind
-use Rattle.summary_core.specs.declared.part.Part.{Part}
 use Rattle.summary_core.specs.declared.part.Part.TheVariants as part
-use Rattle.summary_core.specs.Percentiles.{value_at, ArePercentiles}
-use Rattle.summary_core.specs.Parts.{part_at}
-use Rattle.summary_core.specs.Figures.{HasPercentiles}
-use Rattle.summary_core.specs.Fairness.{fairness_of}
-use Rattle.summary_core.specs.Summing.{ClassEvent, class_events}
-use Rattle.summary_core.specs.OfRun.{delays_of, AreFiguresOf, AreSumsOf, AreSame}
-use Rattle.std.specs.Prelude.{slice_index_or}
 use Rattle.summary_core.proofs.SortedOnce.{sorted_once}
 
 -- ---- percentiles

@@ -1,19 +1,15 @@
 -- The stored timestamps are those of the queued packets, so events by them are the events by the
 -- packets' own timestamps.
-use Rattle.std.proofs.Common.{◌≡◌, ◌==◌, ℕ, Bool, true, false, if◌then◌else◌, Option, None, Some, List, [], ◌∷◌, refl, sym, ap, ◌∙◌, subst}
-use Rattle.std.specs.Prelude.{option_map}
+use Rattle.summary_core.proofs.Prelude.{ℕ, ◌≡◌, List, ap, ◌∙◌, sym, [], ◌∷◌, refl, subst, Bool, Some, if◌then◌else◌, Option, false, true, None, ◌==◌, option_map, Outcome, outcomes, Arrive, Arrived, CanMake, Depart, Dropped, Event, departure, outcome, start, Leaver, SourceState, arrival_ranks, arrived, class_of, departed, dropped, is_full, leaver, leaving, left_from, left_with, pushed, LinkRate, ClassEvent, class_events, events_by, no_timestamps, Timestamps, of_class, stamps_after, times_of}
 use Rattle.tree_defs.specs.Tree.{Address, Popping, option_bind}
 use Rattle.tree_defs.specs.SourceTree.{SourceTree, pop}
 use Rattle.packet_defs.specs.declared.packet.Packet.{Packet}
 use Rattle.policy_defs.specs.Policy.{Policy}
 use Rattle.policy_defs.specs.Accepted.{IsAccepted}
-use Rattle.sched_defs.specs.SourceState.{SourceState, Leaver, start, class_of, arrival_ranks, is_full, arrived, departed, dropped, pushed, left_from, left_with, leaving, leaver}
 use Rattle.sched_defs.specs.Sound.{IsSound, IsAtItsLeaf}
-use Rattle.sched_defs.specs.Events.{Event, Arrive, Depart, Outcome, Arrived, Departed, Dropped, departure, outcome, outcomes, CanMake}
-use Rattle.sched_defs.specs.declared.rate.LinkRate.{LinkRate}
+use Rattle.sched_defs.specs.Events.{Departed}
 use Rattle.sched_defs.proofs.Soundness.{sound_start, sound_arrived, sound_departed, popped_is_held}
 use Rattle.summary_core.specs.declared.event.PacketEvent.TheVariants as event
-use Rattle.summary_core.specs.Summing.{ClassEvent, of_class, times_of, Timestamps, no_timestamps, stamps_after, events_by, class_events}
 
 -- the timestamp of each queued packet is stored
 abbrev AreKept : SourceState → Timestamps → Type 0

@@ -1,12 +1,8 @@
 -- Numbers in ascending order: each list of numbers can be sorted, and the number at a rank is
 -- found by counting.
-use Rattle.std.proofs.Common.{◌≡◌, ◌<◌, ◌≤◌, ◌+◌, ◌⊎◌, inl, inr, ℕ, zero, suc, Bool, true, false, cond, leb, ltb, ◌==◌, List, [], ◌∷◌, length, get_or, refl, sym, subst, arith, IsPermutation, IsSorted}
-use Rattle.std.specs.Ordering.{nat_cmp, is_lt}
+use Rattle.summary_core.proofs.Prelude.{ℕ, length, ◌≡◌, arith, List, ◌≤◌, sym, [], ◌∷◌, refl, suc, ◌<◌, ◌+◌, subst, zero, Bool, false, true, ◌==◌, get_or, inl, inr, leb, cond, ◌⊎◌, ltb, cond-false, cond-true, le-leb, cases_lt, lt-leb, ltb-true, IsPermutation-trans, IsPermutation-refl, IsPermutation-cons, IsPermutation-middle, IsPermutation-sym, sum_by-cons, nat_cmp, is_lt, count_to, at_most}
+use Rattle.std.proofs.Common.{IsPermutation, IsSorted}
 use Rattle.std.specs.declared.cmp.Ordering.TheVariants.{Less, Equal, Greater}
-use Rattle.std.proofs.lemmas.Bool.{cases_lt, ltb-true, le-leb, lt-leb, cond-true, cond-false}
-use Rattle.std.proofs.lemmas.List.Sorted.{IsPermutation-refl, IsPermutation-cons, IsPermutation-sym, IsPermutation-trans, IsPermutation-middle}
-use Rattle.std.proofs.lemmas.List.Sums.{sum_by-cons}
-use Rattle.summary_core.specs.Ranks.{at_most, count_to}
 
 -- each number is at least this one
 abbrev AreFrom : ℕ → List ℕ → Type 0

@@ -1,12 +1,7 @@
 -- The delays of a part's classes, one class after another, are those of its departures in another
 -- order.
-use Rattle.std.proofs.Common.{◌≡◌, ℕ, zero, suc, ◌==◌, ◌<◌, ◌≤◌, Bool, true, false, if◌then◌else◌, List, [], ◌∷◌, ◌++◌, length, refl, sym, ap, subst, ◌∙◌, arith, inl, inr, append_assoc, append-nil}
+use Rattle.summary_core.proofs.Prelude.{ℕ, length, ◌≡◌, arith, List, ap, ◌≤◌, ◌∙◌, sym, [], ◌∷◌, refl, suc, ◌<◌, subst, zero, Bool, if◌then◌else◌, ◌++◌, false, true, ◌==◌, inl, inr, append-nil, append_assoc, cases_lt, eq-eqb, eqb-true, IsPermutation-trans, IsPermutation-refl, IsPermutation-append_comm, IsPermutation-append_left, IsPermutation-append_right, delays_of, part_delays, is_in, joined, delay_of, delays_in}
 use Rattle.std.specs.List.Sorted.{IsPermutation}
-use Rattle.std.proofs.lemmas.Bool.{eqb-true, eq-eqb, cases_lt}
-use Rattle.std.proofs.lemmas.List.Sorted.{IsPermutation-refl, IsPermutation-trans, IsPermutation-append_left, IsPermutation-append_right, IsPermutation-append_comm}
-use Rattle.summary_core.specs.Summing.{delay_of, delays_in}
-use Rattle.summary_core.specs.Parts.{is_in, joined}
-use Rattle.summary_core.specs.OfRun.{delays_of, part_delays}
 use Rattle.summary_core.specs.Laws.{DelaysAreOfTheDepartures}
 
 -- ---- two lists of each class

@@ -1,11 +1,5 @@
 -- Counts over several lists.
-use Rattle.std.proofs.Common.{◌≡◌, ◌<◌, ◌≤◌, ◌+◌, ◌*◌, ◌/◌, ◌%◌, ℕ, zero, suc, Bool, true, false, cond, leb, List, [], ◌∷◌, ◌++◌, length, take, get_or, refl, sym, ap, ◌∙◌, arith, All, append_assoc, append-nil, length-append}
-use Rattle.std.specs.List.{AllWithin}
-use Rattle.std.specs.Int.{div_ceil}
-use Rattle.std.proofs.lemmas.Bool.{le-leb, cond-true, cond-false, leb-true}
-use Rattle.std.proofs.lemmas.List.Sums.{sum_by-cons, sum_by-append, sum_by-le-sum_by}
-use Rattle.summary_core.specs.Percentiles.{nearest_rank}
-use Rattle.summary_core.specs.Ranks.{at_most, count_to, listed}
+use Rattle.summary_core.proofs.Prelude.{ℕ, length, ◌≡◌, arith, List, ap, ◌≤◌, ◌∙◌, sym, [], ◌∷◌, refl, suc, ◌<◌, ◌+◌, zero, Bool, ◌++◌, false, take, true, get_or, leb, ◌*◌, All, append-nil, append_assoc, cond, ◌/◌, length-append, ◌%◌, cond-false, cond-true, le-leb, leb-true, sum_by-cons, sum_by-append, sum_by-le-sum_by, div_ceil, AllWithin, nearest_rank, listed, count_to, at_most}
 
 pub take_all : (xs : List ℕ) (n : ℕ) → length xs ≤ n → take n xs ≡ xs
 take_all [] zero most = refl

@@ -1,25 +1,10 @@
 -- Delays in another order have the same percentiles, so the groups are the same.
-use Rattle.std.proofs.Common.{◌≡◌, ℕ, zero, suc, Bool, true, false, if◌then◌else◌, Option, None, Some, List, [], ◌∷◌, length, refl, sym, ap, subst, ◌∙◌, arith, IfSome, Result, Ok, Err, IfOk}
-use Rattle.std.specs.Prelude.{slice_get, unwrap_or}
+use Rattle.summary_core.proofs.Prelude.{ℕ, length, ◌≡◌, arith, List, ap, ◌∙◌, sym, [], ◌∷◌, refl, suc, subst, zero, Bool, Some, if◌then◌else◌, Option, false, true, IfSome, None, Err, IfOk, Ok, Result, IsPermutation-trans, IsPermutation-refl, length_permutation, IsPermutation-append, slice_get, unwrap_or, no_counts, AreFigures, HasPercentiles, AreGroups, counts_in, gathered, HasGroups, list_at, part_at, is_in, joined, ArePercentiles, Delays, Figures, Group, Groups, Label, Kind, Part, Summary}
 use Rattle.std.specs.declared.alloc.AllocError.{AllocError}
 use Rattle.std.specs.List.Sorted.{IsPermutation}
-use Rattle.std.proofs.lemmas.List.Sorted.{IsPermutation-refl, IsPermutation-trans, IsPermutation-append, length_permutation}
-use Rattle.summary_core.specs.declared.delays.Delays.{Delays}
-use Rattle.summary_core.specs.declared.group.Figures.{Figures}
-use Rattle.summary_core.specs.declared.group.Label.{Label}
-use Rattle.summary_core.specs.declared.group.Group.{Group}
-use Rattle.summary_core.specs.declared.group.Groups.{Groups}
-use Rattle.summary_core.specs.declared.part.Part.{Part}
 use Rattle.summary_core.specs.declared.part.Part.TheVariants as part
-use Rattle.summary_core.specs.declared.part.Kind.{Kind}
 use Rattle.summary_core.specs.declared.part.Kind.TheVariants as kind
-use Rattle.summary_core.specs.declared.summary.Summary.{Summary}
-use Rattle.summary_core.specs.Counting.{no_counts}
-use Rattle.summary_core.specs.Lists.{list_at}
-use Rattle.summary_core.specs.Parts.{is_in, part_at, joined}
-use Rattle.summary_core.specs.Percentiles.{ArePercentiles}
 use Rattle.summary_core.specs.Summary.{IsReordered}
-use Rattle.summary_core.specs.Figures.{HasPercentiles, gathered, counts_in, AreFigures, AreGroups, HasGroups}
 
 -- ---- lists
 pub no_items : (xs : List ℕ) → length xs ≡ 0 → xs ≡ []

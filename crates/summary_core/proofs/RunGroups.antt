@@ -1,29 +1,12 @@
 -- The groups of a summary are those of the outcomes that it summed.
-use Rattle.std.proofs.Common.{◌≡◌, ℕ, zero, suc, ◌<◌, Bool, if◌then◌else◌, Option, None, Some, Vec, Global, List, [], ◌∷◌, ◌++◌, length, IfSome, refl, ap, subst, ◌∙◌, arith}
-use Rattle.std.specs.Prelude.{option_map, unwrap_or, slice_get, replicate}
-use Rattle.std.specs.List.{AllByRecursion}
+use Rattle.summary_core.proofs.Prelude.{ℕ, length, ◌≡◌, arith, List, ap, ◌∙◌, [], ◌∷◌, refl, suc, ◌<◌, subst, zero, Bool, Some, if◌then◌else◌, ◌++◌, Option, IfSome, None, Global, Vec, AllByRecursion, slice_get, option_map, unwrap_or, replicate, outcomes, start, LinkRate, no_counts, AreFigures, HasPercentiles, AreGroups, counts_in, gathered, list_at, delays_of, AreFiguresOf, AreGroupsOf, part_at, is_in, joined, ClassEvent, class_events, delays_in, events_by, items_at, no_timestamps, any_class, counted, is_at_leaf, is_class, Figures, Group, Label, Kind, Part, Summary}
 use Rattle.std.proofs.lemmas.List.{length-map}
 use Rattle.std.proofs.lemmas.Option.{slice_get_within}
-use Rattle.sched_defs.specs.Events.{outcomes}
-use Rattle.sched_defs.specs.SourceState.{start}
-use Rattle.sched_defs.specs.declared.rate.LinkRate.{LinkRate}
 use Rattle.summary_core.specs.declared.counts.Counts.{Counts}
-use Rattle.summary_core.specs.declared.group.Figures.{Figures}
-use Rattle.summary_core.specs.declared.group.Label.{Label}
-use Rattle.summary_core.specs.declared.group.Group.{Group}
-use Rattle.summary_core.specs.declared.part.Part.{Part}
 use Rattle.summary_core.specs.declared.part.Part.TheVariants as part
-use Rattle.summary_core.specs.declared.part.Kind.{Kind}
 use Rattle.summary_core.specs.declared.part.Kind.TheVariants as kind
-use Rattle.summary_core.specs.declared.summary.Summary.{Summary}
-use Rattle.summary_core.specs.Counting.{no_counts}
-use Rattle.summary_core.specs.Summing.{ClassEvent, no_timestamps, events_by, class_events, counted, any_class, is_class, is_at_leaf, items_at, delays_in}
 use Rattle.summary_core.specs.JoinedSums.{same_events}
 use Rattle.summary_core.specs.Summary.{timestamp_at, AddsEvents, SumsNothing}
-use Rattle.summary_core.specs.Lists.{list_at}
-use Rattle.summary_core.specs.Parts.{is_in, part_at, joined}
-use Rattle.summary_core.specs.Figures.{HasPercentiles, gathered, counts_in, AreFigures, AreGroups}
-use Rattle.summary_core.specs.OfRun.{delays_of, AreFiguresOf, AreGroupsOf}
 use Rattle.summary_core.specs.Laws.{GroupsAreOfTheRun}
 use Rattle.summary_core.proofs.KeptTimestamps.{events_told}
 

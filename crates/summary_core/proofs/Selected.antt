@@ -1,10 +1,5 @@
 -- Numbers at ranks are those of the sorted list.
-use Rattle.std.proofs.Common.{◌≡◌, ◌<◌, ◌≤◌, ◌-◌, ℕ, zero, suc, Some, List, length, get_or, sym, ap, ◌∙◌, arith}
-use Rattle.std.proofs.lemmas.List.Sorted.{length_permutation, sum_by-IsPermutation}
-use Rattle.summary_core.specs.declared.delays.Delays.{Delays}
-use Rattle.summary_core.specs.Percentiles.{nearest_rank, value_at}
-use Rattle.summary_core.specs.Ranks.{at_most, count_to, IsAtRank, IsAtPercent}
-use Rattle.summary_core.specs.Figures.{HasPercentiles}
+use Rattle.summary_core.proofs.Prelude.{ℕ, length, ◌≡◌, arith, List, ap, ◌≤◌, ◌∙◌, sym, suc, ◌<◌, zero, Some, ◌-◌, get_or, length_permutation, sum_by-IsPermutation, HasPercentiles, nearest_rank, value_at, count_to, at_most, IsAtPercent, IsAtRank, Delays}
 use Rattle.summary_core.proofs.Ordered.{ordered, ascend_ordered, moved_ordered, sorted_ascending, above_at, below_at}
 use Rattle.summary_core.proofs.Ranks.{rank_is_some, rank_is_most}
 

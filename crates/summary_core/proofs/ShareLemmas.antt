@@ -1,10 +1,6 @@
 -- The totals of shares, leaf by leaf.
-use Rattle.std.proofs.Common.{◌≡◌, ℕ, ◌+◌, ◌≤◌, ◌^◌, Bool, true, false, if◌then◌else◌, List, [], ◌∷◌, length, refl, arith}
-use Rattle.std.proofs.lemmas.Bool.{le-leb}
-use Rattle.std.specs.Prelude.{nat_le, ◌||◌}
-use Rattle.summary_core.specs.declared.group.Group.{Group}
+use Rattle.summary_core.proofs.Prelude.{ℕ, length, ◌≡◌, arith, List, ◌≤◌, [], ◌∷◌, refl, ◌+◌, Bool, if◌then◌else◌, false, true, ◌^◌, le-leb, nat_le, ◌||◌, shares, squares, total, has_packets, index_from, share_of, Group}
 use Rattle.summary_core.specs.declared.fairness.Fairness.TheVariants.{TooLarge}
-use Rattle.summary_core.specs.Fairness.{has_packets, share_of, shares, total, squares, index_from}
 
 count_by : (b : Bool) (x : ℕ) (xs : List ℕ) → length (if b then x ∷ xs else xs) ≡ length (if b then x ∷ [] else []) + length xs
 count_by true x xs = omega arith

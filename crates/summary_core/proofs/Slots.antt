@@ -1,7 +1,5 @@
 -- The slots of timestamps after a change.
-use Rattle.std.proofs.Common.{◌≡◌, ◌<◌, ◌≤◌, ◌+◌, ◌-◌, ◌==◌, ℕ, zero, suc, if◌then◌else◌, Option, None, Some, List, [], ◌∷◌, ◌++◌, length, slice_get, slice_set, refl, sym, ap, ◌∙◌, arith, inl, inr}
-use Rattle.std.proofs.lemmas.Bool.{eq-eqb, ne_eqb, lt-ltb, le-ltb, cond-true, cond-false, cases_order}
-use Rattle.summary_core.specs.Timestamps.{absent, in_slot, stamp_at}
+use Rattle.summary_core.proofs.Prelude.{ℕ, length, ◌≡◌, arith, List, ap, ◌≤◌, ◌∙◌, sym, [], ◌∷◌, refl, suc, ◌<◌, ◌+◌, zero, Some, if◌then◌else◌, ◌++◌, Option, None, ◌-◌, ◌==◌, inl, inr, slice_set, cond-false, cond-true, cases_order, eq-eqb, le-ltb, lt-ltb, ne_eqb, slice_get, stamp_at, absent, in_slot}
 
 -- ---- lists
 get-below : (xs : List ℕ) (x k : ℕ) → k < length xs → slice_get (xs ++ x ∷ []) k ≡ slice_get xs k

@@ -1,10 +1,7 @@
 -- Numbers in ascending order are determined by which numbers they are.
-use Rattle.std.proofs.Common.{◌≡◌, ◌<◌, ◌≤◌, ◌⊎◌, inl, inr, ℕ, suc, cond, leb, List, [], ◌∷◌, length, get_or, refl, sym, ap, ap₂, ◌∙◌, arith, sum_by, IsPermutation, IsSorted}
-use Rattle.std.specs.Ordering.{nat_cmp}
+use Rattle.summary_core.proofs.Prelude.{ℕ, length, ◌≡◌, arith, List, ap, ◌≤◌, ◌∙◌, sym, [], ◌∷◌, refl, suc, ◌<◌, get_or, inl, inr, leb, cond, ap₂, ◌⊎◌, sum_by, cond-false, cond-true, le-leb, cases_order, lt-leb, IsNonDecreasingBy-from_sort, sum_by-IsPermutation, sum_by-cons, nat_cmp}
+use Rattle.std.proofs.Common.{IsPermutation, IsSorted}
 use Rattle.std.specs.List.Sorted.{IsNonDecreasing}
-use Rattle.std.proofs.lemmas.Bool.{cases_order, le-leb, lt-leb, cond-true, cond-false}
-use Rattle.std.proofs.lemmas.List.Sorted.{IsNonDecreasingBy-from_sort, sum_by-IsPermutation}
-use Rattle.std.proofs.lemmas.List.Sums.{sum_by-cons}
 
 -- whether a number is at most x, as a count
 abbrev at_most : ℕ → ℕ → ℕ

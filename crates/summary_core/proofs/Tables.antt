@@ -1,8 +1,5 @@
 -- Lists of delays by index.
-use Rattle.std.proofs.Common.{◌≡◌, ℕ, zero, suc, Bool, true, false, if◌then◌else◌, Option, None, Some, Vec, Global, List, [], ◌∷◌, ◌++◌, slice_get, slice_set, refl, sym, ap, ◌∙◌, arith, append-nil, ◌≤◌, length}
-use Rattle.std.specs.Prelude.{option_map}
-use Rattle.summary_core.specs.Summing.{items_at}
-use Rattle.summary_core.specs.Lists.{list_at}
+use Rattle.summary_core.proofs.Prelude.{ℕ, length, ◌≡◌, arith, List, ap, ◌≤◌, ◌∙◌, sym, [], ◌∷◌, refl, suc, zero, Bool, Some, if◌then◌else◌, ◌++◌, Option, false, true, None, append-nil, Global, Vec, slice_set, slice_get, option_map, list_at, items_at}
 
 -- nothing is added at any index
 pub none_more : (o : Option (List ℕ)) → o ≡ option_map (λ l. l ++ []) o

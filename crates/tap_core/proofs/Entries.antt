@@ -1,11 +1,7 @@
 -- Lists of taps in the steps of a loop.
-use Rattle.std.proofs.Common.{◌≡◌, ℕ, zero, suc, Bool, true, false, cond, not, ◌||◌, List, [], ◌∷◌, ◌++◌, map, filter, take, drop, remove, refl, ap, subst, sym, ◌∙◌, ◌≤◌, arith, ◌<◌, length, get_or, set, append-nil}
+use Rattle.tap_core.proofs.Prelude.{◌≡◌, ◌∙◌, ap, refl, sym, ◌++◌, List, length, take, ℕ, ◌<◌, [], ◌∷◌, get_or, map, ◌≤◌, arith, drop, false, remove, set, subst, suc, true, zero, append-nil, Bool, cond, filter, not, ◌||◌, take_all, drop_all, entries, Entry, left_after_one, Shown, dropped, entry, stepped, entry_after, is_done, left_after, step, answers_done, Dropped, TapKind}
 use Rattle.std.specs.List.Retain.{IsFiltered}
 use Rattle.std.proofs.lemmas.Fn.{filter_same}
-use Rattle.std.proofs.lemmas.List.{drop_all, take_all}
-use Rattle.tap_core.specs.declared.kinds.TapKind.{TapKind}
-use Rattle.tap_core.specs.declared.kinds.Dropped.{Dropped}
-use Rattle.tap_core.specs.Lists.{Shown, dropped, Entry, entry, entries, step, stepped, is_done, left_after_one, answers_done, entry_after, left_after}
 
 -- a filter by kind, on entries
 pub entries-filter : {T : Type 0} (kind_of : T → TapKind) (state_of : T → List ℕ) (p : TapKind → Bool) (ts : List T) → entries kind_of state_of (filter (λ t. p (kind_of t)) ts) ≡ filter (λ e. p e.0) (entries kind_of state_of ts)

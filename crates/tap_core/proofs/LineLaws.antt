@@ -1,8 +1,5 @@
 -- The words of a tap's line, one more number at a time.
-use Rattle.std.proofs.Common.{◌≡◌, ℕ, ◌+◌, ◌<◌, List, [], ◌∷◌, ◌++◌, length, map, take, get_or, decimal, refl, ap, sym, ◌∙◌, append_assoc}
-use Rattle.std.proofs.lemmas.List.{map-append, take_more}
-use Rattle.std.specs.List.{join_with_byte}
-use Rattle.tap_core.specs.Lines.{words_of}
+use Rattle.tap_core.proofs.Prelude.{◌≡◌, ◌∙◌, ap, refl, sym, ◌++◌, List, length, take, ℕ, ◌<◌, [], ◌∷◌, get_or, map, append_assoc, ◌+◌, decimal, map-append, take_more, join_with_byte, words_of}
 
 -- one more word after others
 join_more : (c : ℕ) (w : List ℕ) (ws : List (List ℕ)) (v : List ℕ) → join_with_byte c (w ∷ (ws ++ v ∷ [])) ≡ join_with_byte c (w ∷ ws) ++ (c ∷ v)

@@ -1,11 +1,5 @@
 -- One event, passed to the taps of all slots in order.
-use Rattle.std.proofs.Common.{◌≡◌, ℕ, zero, suc, true, false, List, [], ◌∷◌, ◌++◌, Option, Some, None, Vec, map, take, drop, remove, refl, ap, sym, ◌∙◌, arith, ◌+◌, ◌<◌, ◌≤◌, length, get_or, set, add-one}
-use Rattle.std.specs.declared.alloc.Global.{Global}
-use Rattle.std.specs.Prelude.{slice_get}
-use Rattle.std.proofs.lemmas.List.{length-map, take_all}
-use Rattle.tap_core.specs.declared.kinds.TapKind.{TapKind}
-use Rattle.tap_core.specs.Lines.{line}
-use Rattle.tap_core.specs.Lists.{Shown, Entry, entry, entries, stepped, full, is_done, left_after_one, lines_of, Slot, Tracks, waiting}
+use Rattle.tap_core.proofs.Prelude.{◌≡◌, ◌∙◌, ap, refl, sym, ◌++◌, List, length, take, ℕ, ◌<◌, [], ◌∷◌, get_or, map, ◌≤◌, None, Some, arith, drop, Vec, add-one, false, remove, set, suc, true, zero, ◌+◌, Option, take_all, length-map, slice_get, Global, line, entries, Entry, left_after_one, Shown, Slot, Tracks, entry, stepped, lines_of, full, is_done, waiting, TapKind}
 use Rattle.tap_core.proofs.Entries.{pass-more, pass-done, pass_over}
 use Rattle.tap_core.proofs.SlotLaws.{partly, more_said, more_waiting, more_done, waiting-take_none, waiting-take_said, waiting-take_set, waiting-Tracks, no_tap_missing, Tracks-all, lines-said, lines-waiting, lines-all}
 

@@ -1,14 +1,7 @@
 -- A pass over the slots of taps.
-use Rattle.std.proofs.Common.{◌≡◌, ℕ, zero, suc, true, false, List, [], ◌∷◌, ◌++◌, Some, None, Vec, map, take, drop, remove, refl, ap, subst, sym, ◌∙◌, arith, ◌+◌, ◌<◌, ◌≤◌, length, get_or, set, nat_lt, add-one, append-nil, append_assoc, replicate}
-use Rattle.std.specs.declared.alloc.Global.{Global}
-use Rattle.std.specs.Prelude.{slice_get, is_none}
+use Rattle.tap_core.proofs.Prelude.{◌≡◌, ◌∙◌, ap, refl, sym, ◌++◌, List, length, take, ℕ, ◌<◌, [], ◌∷◌, get_or, map, ◌≤◌, None, Some, arith, drop, Vec, add-one, append_assoc, false, remove, set, subst, suc, true, zero, ◌+◌, append-nil, nat_lt, replicate, take_all, length-map, slice_get, is_none, Global, line, entries, Entry, left_after_one, Shown, Slot, Tracks, dropped, entry, stepped, lines_of, full, waiting, departed, Dropped, TapKind}
 use Rattle.std.proofs.lemmas.Bool.Decides.{nat_tests}
-use Rattle.std.proofs.lemmas.List.{length-map, take_all}
-use Rattle.tap_core.specs.declared.kinds.TapKind.{TapKind}
 use Rattle.tap_core.specs.declared.kinds.TapKind.TheVariants.{Bytes, Order, First, Drops}
-use Rattle.tap_core.specs.declared.kinds.Dropped.{Dropped}
-use Rattle.tap_core.specs.Lines.{line}
-use Rattle.tap_core.specs.Lists.{Shown, departed, dropped, Entry, entry, entries, stepped, full, left_after_one, lines_of, Slot, Tracks, waiting}
 use Rattle.tap_core.proofs.Entries.{pass_over, left_after_one-dropped}
 
 -- the first j entries stepped

@@ -1,9 +1,6 @@
 -- Taps that observe several events in sequence.
-use Rattle.std.proofs.Common.{◌≡◌, ℕ, List, [], ◌∷◌, ◌++◌, map, refl, ap, subst, sym, ◌∙◌, Result, Ok, Err}
-use Rattle.std.specs.Prelude.{OnOk}
-use Rattle.tap_core.specs.declared.kinds.TapKind.{TapKind}
+use Rattle.tap_core.proofs.Prelude.{◌≡◌, ◌∙◌, ap, refl, sym, ◌++◌, List, ℕ, [], ◌∷◌, map, subst, Err, Ok, Result, OnOk, entries, Entry, left_after_one, Shown, Slot, Tracks, entry, stepped, entry_after, left_after, step, state_after, TapKind}
 use Rattle.tap_core.specs.declared.watch.Named.{Named}
-use Rattle.tap_core.specs.Lists.{Shown, Entry, entry, entries, step, stepped, Slot, Tracks, state_after, entry_after, left_after, left_after_one}
 use Rattle.tap_core.specs.Watching.{Sight, Begins, Shows, Watches}
 use Rattle.tap_core.proofs.Entries.{left_after-none, left_after-cons}
 

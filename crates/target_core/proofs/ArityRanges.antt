@@ -1,11 +1,8 @@
 -- The arities that a table gives are those of a target.
-use Rattle.std.proofs.Common.{ℕ, zero, suc, ◌≤◌, List, [], ◌∷◌, length, replicate, arith}
+use Rattle.target_core.proofs.Prelude.{arith, ◌≤◌, List, length, ℕ, [], ◌∷◌, replicate, suc, zero, IsArity, least_arity, most_arity, most_height, Items, Members, item, no_items, AreArities, each_arity, one_arity, GivesArities, first_arity}
 use Rattle.std.specs.List.{AllByRecursion}
 use Rattle.std.proofs.lemmas.List.{length-replicate}
-use Rattle.toml.specs.Data.{Items, no_items, item, Members}
-use Rattle.embed_defs.specs.Target.{IsArity, least_arity, most_arity, most_height}
 use Rattle.target_core.specs.Laws.{AcceptedTargetsAreInRange}
-use Rattle.target_core.specs.TargetText.{AreArities, first_arity, GivesArities, one_arity, each_arity}
 
 narrow_replicate : (h d : ℕ) → least_arity ≤ d → d ≤ most_arity → AllByRecursion IsArity (replicate h d)
 narrow_replicate zero d l m = tt

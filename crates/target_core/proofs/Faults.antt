@@ -1,10 +1,5 @@
 -- Why a table gives no target, and the error of a text.
-use Rattle.std.proofs.Common.{◌≡◌, ◌≢◌, ℕ, ◌≤◌, ◌<◌, List, length, Some, codes, sym, ◌∙◌, subst, arith}
-use Rattle.toml.specs.Data.{array, Items, Members, get_member}
-use Rattle.toml.specs.View.{items_view}
-use Rattle.toml.specs.declared.value.Value.{Value}
-use Rattle.embed_defs.specs.Target.{leaves}
-use Rattle.target_core.specs.TargetText.{IsToml, keys, AreArities, GivesArities, one_arity, each_arity, IsRefused, not_toml, off_keys, large}
+use Rattle.target_core.proofs.Prelude.{arith, ◌≡◌, ◌≤◌, List, Some, length, sym, ℕ, ◌∙◌, codes, subst, ◌<◌, ◌≢◌, leaves, Items, Members, array, get_member, items_view, Value, AreArities, each_arity, one_arity, GivesArities, IsRefused, IsToml, keys, large, not_toml, off_keys}
 use Rattle.target_core.specs.Codes.{code_of}
 use Rattle.target_core.specs.Faults.{IsNoToml, IsKeyFault}
 use Rattle.target_core.specs.declared.fault.TargetFault.{TargetFault}

@@ -1,11 +1,6 @@
 -- Items of an array that are numbers from 2 to 64, read in order.
-use Rattle.std.proofs.Common.{◌≡◌, ℕ, zero, suc, ◌+◌, ◌<◌, ◌≤◌, pos, List, [], ◌∷◌, ◌++◌, length, take, get_or, sym, ap, ◌∙◌, arith}
+use Rattle.target_core.proofs.Prelude.{arith, ◌≡◌, ◌≤◌, List, length, sym, ℕ, ◌∙◌, [], ◌∷◌, pos, ap, ◌<◌, suc, take, zero, get_or, ◌++◌, ◌+◌, items_view-push, Items, integer, item, no_items, Data, push_item, items_view, view, Value, AreArities}
 use Rattle.std.proofs.lemmas.List.{take_more}
-use Rattle.toml.proofs.Views.{items_view-push}
-use Rattle.toml.specs.Data.{Data, integer, Items, no_items, item, push_item}
-use Rattle.toml.specs.View.{view, items_view}
-use Rattle.toml.specs.declared.value.Value.{Value}
-use Rattle.target_core.specs.TargetText.{AreArities}
 
 one_more : (ds : Items) (ns : List ℕ) (d : Data) (n : ℕ) → AreArities ds ns → d ≡ integer (pos n) → 2 ≤ n → n ≤ 64 → AreArities (push_item ds d) (ns ++ n ∷ [])
 one_more no_items [] d n a is l m = (is, l, m, tt)

@@ -1,3 +1,4 @@
+pub mod Prelude
 pub mod OneTarget
 pub mod ArityRanges
 pub mod TextAnswers

@@ -1,9 +1,6 @@
 -- A text parses as one table, and a table gives one target.
-use Rattle.std.proofs.Common.{◌≡◌, ℕ, pos, List, [], ◌∷◌, Some, codes, refl, sym, ap, subst, ◌∙◌, arith}
-use Rattle.toml.specs.Data.{integer, array, Items, no_items, item, Members, get_member}
-use Rattle.embed_defs.specs.Target.{leaves}
+use Rattle.target_core.proofs.Prelude.{arith, ◌≡◌, List, Some, sym, ℕ, ◌∙◌, [], refl, ◌∷◌, pos, ap, codes, subst, leaves, Items, Members, array, get_member, integer, item, no_items, AreArities, each_arity, one_arity, GivesArities, HasNumber, IsRefused, IsToml, first_arity, large, not_toml, off_keys, too_long, IsTargetText, IsOffKeys}
 use Rattle.target_core.specs.Laws.{TextsHaveOneAnswer}
-use Rattle.target_core.specs.TargetText.{IsToml, HasNumber, AreArities, first_arity, GivesArities, one_arity, each_arity, IsTargetText, IsOffKeys, IsRefused, too_long, not_toml, off_keys, large}
 
 same_table : (bytes : List ℕ) (t u : Members) → IsToml bytes t → IsToml bytes u → t ≡ u
 same_table bytes t u a b = let e : Some t ≡ Some u = sym a.reads ∙ b.reads in cc

@@ -1,9 +1,5 @@
 -- The value at a key of a table, and the number of keys.
-use Rattle.std.proofs.Common.{◌≡◌, ℕ, ◌≤◌, pos, List, [], ◌∷◌, length, Option, Some, None, IfSome, refl, sym, ap, ◌∙◌, arith}
-use Rattle.toml.specs.Data.{Data, string, integer, float, boolean, datetime, array, table, Items, Members, get_member, as_array}
-use Rattle.toml.specs.View.{members_view}
-use Rattle.toml.proofs.Views.{Entry}
-use Rattle.target_core.specs.TargetText.{HasNumber, keys}
+use Rattle.target_core.proofs.Prelude.{arith, ◌≡◌, ◌≤◌, List, Some, length, sym, ℕ, ◌∙◌, [], refl, ◌∷◌, pos, ap, None, Option, IfSome, Entry, Items, Members, array, get_member, integer, Data, boolean, datetime, float, string, table, as_array, members_view, HasNumber, keys}
 
 pub no_value : (t : Members) (key : List ℕ) (low high n : ℕ) → None ≡ get_member key t → HasNumber t key low high n → ⊥
 no_value t key low high n missing h =

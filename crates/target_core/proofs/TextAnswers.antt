@@ -1,13 +1,10 @@
 -- Each text gives a target or has an error.
-use Rattle.std.proofs.Common.{◌≡◌, ◌≢◌, ◌⊎◌, inl, inr, ℕ, ◌≤◌, pos, negsuc, Bool, true, false, List, [], ◌∷◌, length, replicate, Option, Some, None, codes, refl, sym, ◌∙◌, subst, arith}
+use Rattle.target_core.proofs.Prelude.{arith, ◌≡◌, ◌≤◌, List, Some, length, sym, ℕ, ◌∙◌, [], refl, ◌∷◌, pos, codes, subst, None, Option, replicate, ◌≢◌, Bool, false, inl, inr, negsuc, true, ◌⊎◌, leaves, Items, Members, array, get_member, integer, item, no_items, Data, boolean, datetime, float, string, table, AreArities, each_arity, one_arity, GivesArities, HasNumber, IsRefused, IsToml, first_arity, keys, large, not_toml, off_keys, too_long, IsTargetText}
 use Rattle.std.proofs.lemmas.Bool.{cases_lt, cases_order}
 use Rattle.std.proofs.lemmas.Str.{IsUtf8-from_is_utf8, is_utf8-from_IsUtf8}
 use Rattle.std.specs.Str.{is_utf8}
-use Rattle.toml.specs.Data.{Data, string, integer, float, boolean, datetime, array, table, Items, no_items, item, Members, get_member}
 use Rattle.toml.specs.Parse.{parse_document}
-use Rattle.embed_defs.specs.Target.{leaves}
 use Rattle.target_core.specs.Laws.{TextsHaveAnAnswer}
-use Rattle.target_core.specs.TargetText.{IsToml, keys, HasNumber, AreArities, first_arity, GivesArities, one_arity, each_arity, IsTargetText, IsRefused, too_long, not_toml, off_keys, large}
 
 -- ---- values
 abbrev Number : Data → Type 0

@@ -1,18 +1,12 @@
 -- The number that digits represent when they follow the digits of another.
-use Rattle.std.proofs.Common.{length, ◌≡◌, ℕ, ◌+◌, ◌-◌, ◌*◌, ◌/◌, ◌<◌, ◌≤◌, ◌&&◌, true, List, [], ◌∷◌, Option, Some, None, refl, arith}
-use Rattle.std.specs.Prelude.{nat_le, if◌then◌else◌}
+use Rattle.text_core.proofs.Prelude.{length, ◌≡◌, arith, ◌+◌, List, [], ◌∷◌, ◌≤◌, Some, refl, ℕ, ◌-◌, true, ◌<◌, None, Option, ◌&&◌, ◌*◌, ◌/◌, le-leb, lt-leb, nat_tests, decimal, if◌then◌else◌, nat_le, all_ascii_digits, is_numeral, max, number_of}
 use Rattle.std.specs.Char.{digit_value, is_ascii_digit}
-use Rattle.std.specs.Str.{all_ascii_digits}
 use Rattle.std.specs.Str.Parse.{AllDigits, digits_value, digits_value_after}
 use Rattle.std.specs.Int.{IsInRange}
-use Rattle.std.specs.Fmt.{decimal}
 use Rattle.std.proofs.lemmas.Fmt.{decimal_is_IsNumeral}
 use Rattle.std.proofs.lemmas.Str.Parse.{digit_from_value}
-use Rattle.std.proofs.lemmas.Bool.{le-leb, lt-leb}
-use Rattle.std.proofs.lemmas.Bool.Decides.{nat_tests}
 use Rattle.std.proofs.lemmas.Str.{digit_value_digit}
 use Rattle.std.proofs.Math.Bool.{and-false}
-use Rattle.text_core.specs.Decimals.{max, is_numeral, number_of}
 
 -- the number that the digits of n followed by these bytes represent
 abbrev pub number_after : ℕ → List ℕ → Option ℕ

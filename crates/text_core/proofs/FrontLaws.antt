@@ -1,17 +1,7 @@
 -- The token at the start of some bytes is the longest prefix that is a token.
-use Rattle.std.proofs.Common.{◌≡◌, ℕ, zero, suc, ◌+◌, ◌<◌, ◌≤◌, ◌↔◌, Bool, true, false, cond, ◌&&◌, ◌||◌, List, [], ◌∷◌, length, take, drop, Option, Some, None, option_map, sym, refl, ap, ◌∙◌, subst, arith}
-use Rattle.std.specs.List.{prefix_len, list_all}
-use Rattle.std.specs.Str.{all_ascii_digits}
-use Rattle.std.specs.Prelude.{◌==◌, if◌then◌else◌}
-use Rattle.std.proofs.lemmas.Bool.{eqb-true}
-use Rattle.std.proofs.lemmas.List.Sums.{prefix_len-le-length}
-use Rattle.text_core.specs.declared.token.TokenKind.{TokenKind}
+use Rattle.text_core.proofs.Prelude.{length, ◌≡◌, arith, ◌+◌, List, [], ap, drop, sym, ◌∷◌, subst, take, ◌∙◌, ◌≤◌, Some, refl, ℕ, true, ◌<◌, None, suc, Bool, cond, false, Option, option_map, zero, ◌&&◌, ◌||◌, ◌↔◌, eqb-true, prefix_len-le-length, prefix_len, list_all, if◌then◌else◌, ◌==◌, all_ascii_digits, is_numeral, mark_text, begun, token_at, is_digit, is_word_byte, begins_word, is_double_mark, is_word_start, number_at, single_mark, is_mark, mark_length, Mark, TokenKind}
 use Rattle.text_core.specs.declared.token.TokenKind.TheVariants as k
-use Rattle.text_core.specs.declared.mark.Mark.{Mark}
 use Rattle.text_core.specs.declared.mark.Mark.TheVariants as m
-use Rattle.text_core.specs.Decimals.{is_numeral}
-use Rattle.text_core.specs.Marks.{mark_text}
-use Rattle.text_core.specs.Tokens.{is_digit, is_word_byte, is_word_start, begins_word, token_at, number_at, begun, is_mark, is_double_mark, single_mark, mark_length}
 use Rattle.text_core.specs.Laws.{IsToken, BeginsWith, LongestTokenIsTaken}
 use Rattle.text_core.proofs.LineLaws.{length-take-le}
 use Rattle.text_core.proofs.TextLaws.{both_left, both_right, digit_apart}

@@ -1,3 +1,4 @@
+pub mod Prelude
 pub mod DecimalLemmas
 pub mod FrontLaws
 pub mod LineLaws

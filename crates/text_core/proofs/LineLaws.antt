@@ -1,10 +1,5 @@
 -- The spans of the lines hold the statements of the text.
-use Rattle.std.proofs.Common.{◌≡◌, ℕ, zero, suc, ◌+◌, ◌-◌, ◌<◌, ◌≤◌, Bool, true, false, cond, List, [], ◌∷◌, ◌++◌, length, take, drop, map, sym, refl, ap, ◌∙◌, arith, length-drop}
-use Rattle.std.specs.List.{prefix_len, All, AllByRecursion}
-use Rattle.std.proofs.lemmas.List.{append-nil}
-use Rattle.std.proofs.lemmas.List.Sums.{prefix_len-le-length}
-use Rattle.text_core.specs.declared.line.Line.{Line}
-use Rattle.text_core.specs.Lines.{is_text, is_clean_text, no_comment, statement_length, statement_of, statements_of, onto_first, lines_of, line_text, IsMarked, LiesIn, line_at, Follow}
+use Rattle.text_core.proofs.Prelude.{length, ◌≡◌, arith, ◌+◌, List, [], ap, drop, sym, ◌∷◌, take, ◌∙◌, ◌≤◌, refl, ℕ, ◌-◌, true, ◌++◌, ◌<◌, suc, Bool, cond, false, length-drop, zero, map, append-nil, prefix_len-le-length, prefix_len, All, AllByRecursion, Follow, is_text, line_at, statement_length, IsMarked, LiesIn, is_clean_text, line_text, lines_of, no_comment, onto_first, statement_of, statements_of, Line}
 
 abbrev nothing : List ℕ
 nothing = []

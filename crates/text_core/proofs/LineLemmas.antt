@@ -1,8 +1,5 @@
 -- One more line after others.
-use Rattle.std.proofs.Common.{ℕ, ◌+◌, List, [], ◌∷◌, ◌++◌, drop, subst}
-use Rattle.std.specs.List.{prefix_len}
-use Rattle.text_core.specs.declared.line.Line.{Line}
-use Rattle.text_core.specs.Lines.{is_text, Follow}
+use Rattle.text_core.proofs.Prelude.{◌+◌, List, [], drop, ◌∷◌, subst, ℕ, ◌++◌, prefix_len, Follow, is_text, Line}
 
 pub Follow-join : (text : List ℕ) (from : ℕ) (ls : List Line) (at : ℕ) (ms : List Line) (to : ℕ) → Follow text from ls at → Follow text at ms to → Follow text from (ls ++ ms) to
 Follow-join text from [] at ms to follow later = subst (λ n. Follow text n ms to) follow later

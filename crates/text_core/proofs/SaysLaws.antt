@@ -1,10 +1,5 @@
 -- Bytes have one meaning as tokens, and the spans of the tokens lead to it.
-use Rattle.std.proofs.Common.{◌≡◌, ℕ, ◌+◌, ◌-◌, List, [], ◌∷◌, length, take, drop, Option, Some, None, sym, refl, ap, ◌∙◌, subst, arith}
-use Rattle.std.specs.List.{prefix_len}
-use Rattle.text_core.specs.declared.token.Token.{Token}
-use Rattle.text_core.specs.Tokens.{is_blank, token_at, begun, after_blanks, Stand}
-use Rattle.text_core.specs.Glyphs.{Glyph}
-use Rattle.text_core.specs.Says.{skipped, said, SaysFrom, Says, AreSaid}
+use Rattle.text_core.proofs.Prelude.{length, ◌≡◌, arith, ◌+◌, List, [], ap, drop, sym, ◌∷◌, subst, take, ◌∙◌, Some, refl, ℕ, ◌-◌, None, Option, prefix_len, Glyph, AreSaid, said, Says, SaysFrom, skipped, Stand, begun, token_at, after_blanks, is_blank, Token}
 use Rattle.text_core.proofs.LineLaws.{drop-drop, drop-over}
 
 abbrev pub pick : {A : Type 0} {B : Type 0} → Option A → B → (A → B) → B

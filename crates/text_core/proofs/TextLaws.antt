@@ -1,21 +1,8 @@
 -- The meaning of words, numbers and marks in sequence is the sequence of their meanings.
-use Rattle.std.proofs.Common.{◌≡◌, ℕ, suc, ◌+◌, ◌≤◌, List, [], ◌∷◌, ◌++◌, length, take, drop, Some, option_map, Bool, true, false, cond, eqb, sym, refl, ap, ◌∙◌, subst, arith}
-use Rattle.std.specs.List.{prefix_len}
-use Rattle.std.specs.Prelude.{◌||◌, ◌&&◌, ◌==◌, not}
-use Rattle.std.specs.Fmt.{decimal}
+use Rattle.text_core.proofs.Prelude.{length, ◌≡◌, arith, ◌+◌, List, [], ap, drop, sym, ◌∷◌, subst, take, ◌∙◌, ◌≤◌, Some, refl, ℕ, true, ◌++◌, suc, Bool, cond, false, option_map, ◌&&◌, ◌||◌, eqb, eqb-true, eq-eqb, nat_tests, decimal, prefix_len, ◌==◌, not, all_ascii_digits, is_numeral, max, Glyph, figure, sign, text, mark_text, mark_of, said, Says, SaysFrom, skipped, IsBoundary, ends_mark, begun, token_at, is_blank, is_digit, is_word_byte, begins_word, is_double_mark, is_word_start, number_at, single_mark, Mark, TokenKind}
 use Rattle.std.proofs.lemmas.List.Folds.{prefix_len-append}
-use Rattle.std.specs.Str.{all_ascii_digits}
-use Rattle.std.proofs.lemmas.Bool.{eqb-true, eq-eqb}
-use Rattle.std.proofs.lemmas.Bool.Decides.{nat_tests}
-use Rattle.text_core.specs.declared.token.TokenKind.{TokenKind}
 use Rattle.text_core.specs.declared.token.TokenKind.TheVariants as k
-use Rattle.text_core.specs.declared.mark.Mark.{Mark}
 use Rattle.text_core.specs.declared.mark.Mark.TheVariants as m
-use Rattle.text_core.specs.Decimals.{max, is_numeral}
-use Rattle.text_core.specs.Marks.{mark_text, mark_of}
-use Rattle.text_core.specs.Tokens.{is_blank, is_digit, is_word_byte, is_word_start, begins_word, token_at, number_at, begun, is_double_mark, single_mark}
-use Rattle.text_core.specs.Glyphs.{Glyph, text, figure, sign}
-use Rattle.text_core.specs.Says.{skipped, said, Says, SaysFrom, IsBoundary, ends_mark}
 use Rattle.text_core.proofs.DecimalLemmas.{digit_range, decimal-numeral, number_of-decimal}
 
 pub both_left : (u v : Bool) → u && v ≡ true → u ≡ true

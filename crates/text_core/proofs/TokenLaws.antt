@@ -1,14 +1,9 @@
 -- A line has either one list of tokens or one error, and its meaning is that of its tokens.
-use Rattle.std.proofs.Common.{◌<◌, refl, ◌≡◌, ℕ, zero, suc, ◌+◌, ◌-◌, ◌≤◌, ◌⊎◌, inl, inr, List, [], ◌∷◌, ◌++◌, get_or, length, take, drop, Some, None, sym, ap, ◌∙◌, subst, arith, length-drop}
-use Rattle.std.specs.List.{All}
-use Rattle.text_core.specs.declared.token.Token.{Token}
-use Rattle.text_core.specs.Tokens.{token_at, begun, Begun, Stand, IsBadAt, IsFaultOf, StandsIn}
+use Rattle.text_core.proofs.Prelude.{length, ◌≡◌, arith, ◌+◌, List, [], ap, drop, sym, ◌∷◌, subst, take, ◌∙◌, ◌≤◌, Some, refl, ℕ, ◌-◌, ◌++◌, ◌<◌, None, suc, get_or, length-drop, inl, zero, inr, ◌⊎◌, All, Glyph, AreSaid, said, Says, SaysFrom, skipped, token_text, Stand, begun, token_at, IsFaultOf, Begun, IsBadAt, StandsIn, Token}
 use Rattle.text_core.specs.declared.token.TokenFault.{TokenFault}
 use Rattle.text_core.specs.declared.token.TokenFault.TheVariants as fault
 use Rattle.text_core.specs.declared.refusal.Refusal.TheVariants as refusal
 use Rattle.text_core.specs.Laws.{TokensSayTheLine}
-use Rattle.text_core.specs.Glyphs.{Glyph}
-use Rattle.text_core.specs.Says.{skipped, said, SaysFrom, Says, AreSaid, token_text}
 use Rattle.text_core.specs.Refusals.{refusal_of}
 use Rattle.text_core.proofs.LineLaws.{drop-drop, drop-over}
 use Rattle.text_core.proofs.SaysLaws.{pick, skipped-at, Stand-Says}

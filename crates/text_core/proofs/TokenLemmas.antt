@@ -1,10 +1,5 @@
 -- The extent of the longest token, and one more token after others.
-use Rattle.std.proofs.Common.{◌≡◌, ℕ, ◌+◌, ◌-◌, ◌<◌, ◌≤◌, Bool, true, false, cond, ◌||◌, ◌⊎◌, inl, inr, List, [], ◌∷◌, ◌++◌, length, take, drop, get_or, Some, sym, refl, ap, subst, arith, length-drop}
-use Rattle.std.specs.List.{prefix_len}
-use Rattle.std.proofs.lemmas.List.{take_all}
-use Rattle.text_core.specs.declared.token.TokenKind.{TokenKind}
-use Rattle.text_core.specs.declared.token.Token.{Token}
-use Rattle.text_core.specs.Tokens.{token_at, begun, after_blanks, Stand}
+use Rattle.text_core.proofs.Prelude.{length, ◌≡◌, arith, ◌+◌, List, [], ap, drop, sym, ◌∷◌, subst, take, ◌≤◌, Some, refl, ℕ, ◌-◌, true, ◌++◌, ◌<◌, Bool, cond, false, get_or, length-drop, inl, ◌||◌, inr, ◌⊎◌, take_all, prefix_len, Stand, begun, token_at, after_blanks, Token, TokenKind}
 
 -- the token has at least one byte, and lies in the bytes
 pub record Fits (n : ℕ) (bs : List ℕ) : Type 0 where

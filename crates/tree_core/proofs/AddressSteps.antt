@@ -1,13 +1,5 @@
 -- One step of a push down a source tree along an address, with the ranks.
-use Rattle.std.proofs.Common.{◌≡◌, ℕ, ◌+◌, ◌-◌, ◌<◌, ◌≤◌, ◌^◌, List, [], ◌∷◌, length, get_or, take, drop, set, refl, sym, ap, ◌∙◌, subst, arith}
-use Rattle.std.proofs.lemmas.List.{take_all}
-use Rattle.tree_defs.specs.Queue.{Queue, put}
-use Rattle.tree_defs.specs.Tree.{inner, Trees, LeadsToLeaf}
-use Rattle.tree_defs.specs.SourceTree.{push, push_child, IsWellFormed}
-use Rattle.tree_defs.proofs.WellFormedLaws.{IsWellFormed-push}
-use Rattle.pifo_core.specs.Sorted.{Contents}
-use Rattle.tree_core.specs.TreeContents.{TreeContents, branch, forest, spares, grown, IsSound, HasDigits}
-use Rattle.tree_core.specs.Places.{HasRoom, without_places, without_places_below}
+use Rattle.tree_core.proofs.Prelude.{arith, ◌≡◌, ap, ◌∙◌, get_or, length, ◌<◌, subst, ◌≤◌, List, [], refl, ◌∷◌, sym, take, ℕ, ◌+◌, ◌^◌, set, drop, ◌-◌, take_all, Contents, IsWellFormed-push, Queue, put, IsWellFormed, push, push_child, Trees, inner, LeadsToLeaf, HasRoom, without_places, without_places_below, TreeContents, forest, branch, HasDigits, IsSound, grown, spares}
 use Rattle.tree_core.proofs.PushSteps.{child_within, child_leads, child_room, child_pushed, EachPushed-le, EachPushed-set, forest-set, branch-push_child, HasDigits-put, leads_here}
 use Rattle.tree_core.proofs.PlaceLaws.{one_less, spares-used, branch-used}
 

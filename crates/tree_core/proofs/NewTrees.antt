@@ -1,16 +1,5 @@
 -- A new tree has its topology and empty queues.
-use Rattle.std.proofs.Common.{◌≡◌, ℕ, zero, suc, ◌+◌, ◌<◌, ◌≤◌, List, [], ◌∷◌, ◌++◌, length, get_or, take, map, Vec, Global, refl, sym, ap, ◌∙◌, subst, arith}
-use Rattle.std.proofs.lemmas.List.{map_more}
-use Rattle.tree_defs.specs.Queue.{Queue}
-use Rattle.tree_defs.specs.Tree.{Tree, inner, Trees, none, more, trees_of, nodes, nodes_below, depth, depth_below}
-use Rattle.tree_defs.specs.SourceTree.{IsWellFormed}
-use Rattle.pifo_core.specs.Sorted.{Contents}
-use Rattle.tree_core.specs.TreeContents.{TreeContents, branch, forest, IsSound, EachPushed, HasDigits}
-use Rattle.tree_defs.specs.Topology.{Topology, IsBranched, AreBranched}
-use Rattle.tree_defs.specs.SourceTree.{empty_tree, empty_trees}
-use Rattle.tree_core.specs.Shape.{topology, topology_step}
-use Rattle.tree_defs.proofs.WellFormedLaws.{IsWellFormed-empty}
-use Rattle.tree_core.specs.declared.topo.Topo.{Topo}
+use Rattle.tree_core.proofs.Prelude.{arith, ◌≡◌, ap, ◌∙◌, get_or, length, ◌<◌, subst, ◌≤◌, List, [], refl, ◌∷◌, sym, take, ℕ, ◌+◌, suc, zero, map, ◌++◌, Global, Vec, map_more, Contents, IsWellFormed-empty, Queue, IsWellFormed, empty_trees, empty_tree, IsBranched, AreBranched, Topology, Tree, Trees, depth, inner, more, nodes, trees_of, depth_below, none, nodes_below, topology, topology_step, TreeContents, forest, branch, HasDigits, IsSound, EachPushed, Topo}
 use Rattle.tree_core.specs.declared.topo.Topo.TheOpen.{Inner}
 use Rattle.tree_core.specs.declared.topo.Topo.TheViews as views
 use Rattle.tree_core.specs.declared.topo.Topo.TheFolds.{fold-roll-Topo}

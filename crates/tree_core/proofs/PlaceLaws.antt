@@ -1,10 +1,5 @@
 -- The free slots after one step of a push, of a pop and of a reserve.
-use Rattle.std.proofs.Common.{◌≡◌, ℕ, zero, suc, ◌+◌, ◌-◌, ◌<◌, ◌≤◌, List, [], ◌∷◌, length, get_or, set, refl, sym, ap, ◌∙◌, subst, arith}
-use Rattle.tree_defs.specs.Tree.{Tree, leaf, inner, Trees, none, more, LeadsToLeaf}
-use Rattle.pifo_core.specs.Sorted.{Contents}
-use Rattle.tree_core.specs.Paths.{digits_of}
-use Rattle.tree_core.specs.TreeContents.{TreeContents, branch, forest, spares, grown}
-use Rattle.tree_core.specs.Places.{without_places, without_places_below, HasNoFewer, HaveNoFewer}
+use Rattle.tree_core.proofs.Prelude.{arith, ◌≡◌, ap, ◌∙◌, get_or, length, ◌<◌, subst, ◌≤◌, List, [], refl, ◌∷◌, sym, ℕ, ◌+◌, set, suc, zero, ◌-◌, Contents, Tree, Trees, inner, more, LeadsToLeaf, none, leaf, digits_of, without_places, without_places_below, HasNoFewer, HaveNoFewer, TreeContents, forest, branch, grown, spares}
 use Rattle.tree_core.proofs.PushSteps.{later, later-cons, child_within}
 
 -- ---- push

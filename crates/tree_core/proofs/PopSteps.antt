@@ -1,17 +1,9 @@
 -- One step of a pop down a source tree: the child that it visits, and the tree after that child has
 -- been popped.
-use Rattle.std.proofs.Common.{◌≡◌, ℕ, zero, suc, ◌+◌, ◌<◌, ◌≤◌, ◌^◌, List, [], ◌∷◌, ◌++◌, length, get_or, set, Some, refl, sym, ap, ◌∙◌, subst, arith, inl, inr, append-nil, append_assoc}
+use Rattle.tree_core.proofs.Prelude.{arith, ◌≡◌, ap, ◌∙◌, get_or, length, ◌<◌, subst, ◌≤◌, List, [], refl, ◌∷◌, sym, ℕ, ◌+◌, ◌^◌, set, suc, zero, ◌++◌, Some, append-nil, append_assoc, inl, inr, Contents, IsWellFormed-pop, length-size, taken_names, times-taken, Queue, take_least, Taking, take_from, IsWellFormed, AreWellFormed, NamesChildren, of_first, of_inner, of_later, of_leaf, pop, pop_child, size, times, Tree, Trees, depth, inner, more, nodes, depth_below, none, nodes_below, HasChild, Popping, Way, TreeContents, forest, branch, HasDigits, IsSound, grown, EachBelow, PopsOnto}
 use Rattle.std.specs.Prelude.{option_map}
 use Rattle.std.proofs.lemmas.Bool.{cases_lt}
-use Rattle.tree_defs.specs.Queue.{Queue, Taking, take_least, take_from}
-use Rattle.tree_defs.specs.Tree.{Tree, inner, Trees, none, more, Popping, HasChild, depth, depth_below, nodes, nodes_below}
-use Rattle.tree_defs.specs.SourceTree.{pop, pop_child, of_leaf, of_inner, of_first, of_later, NamesChildren, size, times, IsWellFormed, AreWellFormed}
 use Rattle.tree_defs.proofs.TakeLeast.{take_from-front, take_from-behind}
-use Rattle.tree_defs.proofs.WellFormedLaws.{taken_names}
-use Rattle.tree_defs.proofs.WellFormedLaws.{IsWellFormed-pop, length-size, times-taken}
-use Rattle.pifo_core.specs.Sorted.{Contents}
-use Rattle.tree_core.specs.Paths.{Way}
-use Rattle.tree_core.specs.TreeContents.{TreeContents, branch, forest, grown, IsSound, EachBelow, HasDigits, PopsOnto}
 use Rattle.tree_core.proofs.PushSteps.{EachPushed-set, EachPushed-le, child_pushed}
 
 -- a node contains as many packets as its queue has entries

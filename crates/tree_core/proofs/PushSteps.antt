@@ -1,15 +1,6 @@
 -- One step of a push down a source tree: the child that it visits, and the tree after the push to
 -- that child.
-use Rattle.std.proofs.Common.{◌≡◌, ℕ, zero, suc, ◌+◌, ◌-◌, ◌<◌, ◌≤◌, ◌^◌, List, [], ◌∷◌, length, get_or, take, drop, set, refl, sym, ap, ◌∙◌, subst, arith}
-use Rattle.std.proofs.lemmas.List.{take_all}
-use Rattle.tree_defs.specs.Queue.{Queue, put}
-use Rattle.tree_defs.specs.Tree.{Tree, inner, Trees, more, LeadsToLeaf, LeadsBelow}
-use Rattle.tree_defs.specs.SourceTree.{push, push_child, IsWellFormed}
-use Rattle.tree_defs.proofs.WellFormedLaws.{IsWellFormed-push}
-use Rattle.pifo_core.specs.Sorted.{Contents}
-use Rattle.tree_core.specs.Paths.{digits_of, ranks_of}
-use Rattle.tree_core.specs.TreeContents.{TreeContents, branch, forest, spares, grown, IsSound, EachPushed, EachBelow, HasDigits}
-use Rattle.tree_core.specs.Places.{HasRoom, HasRoomBelow}
+use Rattle.tree_core.proofs.Prelude.{arith, ◌≡◌, ap, ◌∙◌, get_or, length, ◌<◌, subst, ◌≤◌, List, [], refl, ◌∷◌, sym, take, ℕ, ◌+◌, ◌^◌, set, suc, zero, drop, ◌-◌, take_all, Contents, IsWellFormed-push, Queue, put, IsWellFormed, push, push_child, Tree, Trees, inner, more, LeadsToLeaf, LeadsBelow, digits_of, ranks_of, HasRoom, HasRoomBelow, TreeContents, forest, branch, HasDigits, IsSound, grown, EachPushed, spares, EachBelow}
 
 -- the steps after the first, as a slice pattern extracts them
 abbrev pub later : List (ℕ × ℕ) → List (ℕ × ℕ)

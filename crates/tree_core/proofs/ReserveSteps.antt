@@ -1,12 +1,5 @@
 -- A reserve leaves the tree unchanged, and makes room on the path.
-use Rattle.std.proofs.Common.{◌≡◌, ℕ, zero, suc, ◌-◌, ◌<◌, ◌≤◌, List, [], ◌∷◌, length, get_or, take, drop, set, refl, sym, ap, ◌∙◌, subst, arith, Result, Ok, Err, OnOk}
-use Rattle.std.proofs.lemmas.List.{take_all}
-use Rattle.tree_defs.specs.Queue.{Queue}
-use Rattle.tree_defs.specs.Tree.{Tree, more, LeadsToLeaf}
-use Rattle.tree_defs.specs.SourceTree.{IsWellFormed}
-use Rattle.pifo_core.specs.Sorted.{Contents}
-use Rattle.tree_core.specs.TreeContents.{TreeContents, branch, forest, spares, grown, IsSound, EachPushed, HasDigits}
-use Rattle.tree_core.specs.Places.{HasRoom, HasRoomBelow}
+use Rattle.tree_core.proofs.Prelude.{arith, ◌≡◌, ap, ◌∙◌, get_or, length, ◌<◌, subst, ◌≤◌, List, [], refl, ◌∷◌, sym, take, ℕ, set, suc, zero, drop, ◌-◌, Err, Ok, OnOk, Result, take_all, Contents, Queue, IsWellFormed, Tree, more, LeadsToLeaf, HasRoom, HasRoomBelow, TreeContents, forest, branch, HasDigits, IsSound, grown, EachPushed, spares}
 use Rattle.tree_core.proofs.PushSteps.{child_within, child_leads, child_pushed, EachPushed-set}
 
 abbrev pub behind : List ℕ → List ℕ

@@ -1,7 +1,5 @@
 -- The laws, each proved from its lemmas.
-use Rattle.std.proofs.Common.{◌≡◌, Some, ap, ◌∙◌}
-use Rattle.tree_defs.specs.Tree.{leaf, Address, subtree, LeadsToLeaf}
-use Rattle.tree_defs.specs.Topology.{Topology, after}
+use Rattle.tree_defs.proofs.Prelude.{◌≡◌, Some, ap, ◌∙◌, Topology, after, leaf, Address, LeadsToLeaf, subtree}
 use Rattle.tree_defs.specs.Laws.{LeafAddressesLeadToLeaves, PrefixesComeBefore, CompleteTreesHaveAllAddresses, CompleteTreesHaveDeepLeaves, OneShapeIsOneTopology, WellFormedAtEachInnerNode, EmptyTreesAreWellFormed, PushesKeepWellFormed, PopsKeepWellFormed, NothingIsPoppedFromAnEmptyRoot, RootsHaveAnEntryForEachPacket, EmptyTreesHoldNothing, PushesAddOne, PopsTakeOne, PushesKeepTheTopology, PopsKeepTheTopology, PopsLeadToLeaves, PushesAddThePacket, PopsTakeThePacket, PushesPutAtTheLeaf, PopsTakeAtTheLeaf}
 use Rattle.tree_defs.proofs.TopologyLaws.{leaf_at, leads_to, after-append, after-is, within_complete, address_of_complete, deep_leaf, leaf_of_complete}
 use Rattle.tree_defs.proofs.Shapes.{topology_of-same, same_shape, topology_of-empty, topology_of-push, topology_of-pop, pop-path}

@@ -1,3 +1,4 @@
+pub mod Prelude
 pub mod Options
 pub mod WellFormedLaws
 pub mod NodeWellFormed

@@ -1,8 +1,5 @@
 -- A tree is well formed if each inner node is.
-use Rattle.std.proofs.Common.{◌≡◌, ℕ, zero, suc, ◌+◌, [], ◌∷◌, Some, refl, ap, ◌∙◌, subst, arith}
-use Rattle.tree_defs.specs.Queue.{Queue}
-use Rattle.tree_defs.specs.Tree.{leaf, inner, Trees, none, more, Address, child, subtree, subtree_in}
-use Rattle.tree_defs.specs.SourceTree.{SourceTree, size, times, IsWellFormed, AreWellFormed}
+use Rattle.tree_defs.proofs.Prelude.{◌≡◌, Some, [], ap, arith, refl, subst, ℕ, ◌∙◌, ◌∷◌, suc, zero, ◌+◌, Queue, AreWellFormed, IsWellFormed, size, times, SourceTree, leaf, Address, Trees, inner, more, none, subtree, subtree_in, child}
 use Rattle.tree_defs.specs.Laws.{IsWellFormedAt}
 
 times_of_child : (ts : Trees Queue) (q : Queue) (k i v : ℕ) (u : SourceTree) → v ≡ i + k → AreWellFormed ts q k → child ts i ≡ Some u → times v q ≡ size u

@@ -1,8 +1,7 @@
 -- Facts about all items, or distinct items, with one more and with one fewer.
-use Rattle.std.proofs.Common.{◌≡◌, ℕ, false, List, [], ◌∷◌, ◌++◌, nat_eq, sym, subst, arith}
-use Rattle.std.specs.List.{AllByRecursion, IsDistinct}
+use Rattle.tree_defs.proofs.Prelude.{◌≡◌, [], arith, subst, ℕ, ◌∷◌, List, sym, ◌++◌, false, nat_eq, AllByRecursion, OneMore}
+use Rattle.std.specs.List.{IsDistinct}
 use Rattle.std.proofs.lemmas.Bool.Decides.{nat_tests}
-use Rattle.tree_defs.specs.Packets.{OneMore}
 
 module _ {X : Type 0} (P : X → Type 0) where
   all_with : (x : X) (before behind : List X) → P x → AllByRecursion P (before ++ behind) → AllByRecursion P (before ++ x ∷ behind)

@@ -1,7 +1,6 @@
 -- The origin of an `Option` that has a value.
-use Rattle.std.proofs.Common.{◌≡◌, Option, None, Some, refl}
+use Rattle.tree_defs.proofs.Prelude.{◌≡◌, Some, refl, None, Option, option_bind}
 use Rattle.std.specs.Prelude.{option_map}
-use Rattle.tree_defs.specs.Tree.{option_bind}
 
 module _ {A B : Type 0} where
   pub option_map-some : (f : A → B) (o : Option A) (r : B) → option_map f o ≡ Some r → (x : A) × (o ≡ Some x) × (f x ≡ r)

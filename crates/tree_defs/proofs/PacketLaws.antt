@@ -1,14 +1,8 @@
 -- The packets that a push adds and a pop removes.
-use Rattle.std.proofs.Common.{◌≡◌, ◌≢◌, ℕ, zero, suc, ◌+◌, List, [], ◌∷◌, ◌++◌, map, length, Some, refl, sym, ap, ◌∙◌, subst, arith}
-use Rattle.std.specs.Prelude.{option_map, slice_index, drop}
+use Rattle.tree_defs.proofs.Prelude.{◌≡◌, Some, [], ap, arith, refl, subst, ℕ, ◌∙◌, ◌∷◌, suc, List, length, sym, zero, ◌+◌, ◌++◌, ◌≢◌, map, drop, slice_index, OneMore, Placed, below, packets, packets_below, queue_at, queue_in, values, values_below, Queue, Taking, take_least, put, Entry, LeavesFrom, empty_tree, empty_trees, of_first, of_inner, of_later, of_leaf, pop, pop_child, push, push_child, Topology, leaf, Address, LeadsToLeaf, Trees, inner, more, none, LeadsBelow, Tree, Popping}
+use Rattle.std.specs.Prelude.{option_map}
 use Rattle.std.proofs.lemmas.List.{map-append}
-use Rattle.tree_defs.specs.Queue.{Entry, Queue, put, Taking, take_least}
-use Rattle.tree_defs.specs.QueueLaws.{LeavesFrom}
 use Rattle.tree_defs.proofs.TakeLeast.{take_least-splits}
-use Rattle.tree_defs.specs.Tree.{Tree, leaf, inner, Trees, none, more, Address, Popping, LeadsToLeaf, LeadsBelow}
-use Rattle.tree_defs.specs.Topology.{Topology}
-use Rattle.tree_defs.specs.SourceTree.{empty_tree, empty_trees, push, push_child, pop, pop_child, of_leaf, of_inner, of_first, of_later}
-use Rattle.tree_defs.specs.Packets.{Placed, OneMore, below, values, values_below, packets, packets_below, queue_at, queue_in}
 use Rattle.tree_defs.proofs.Options.{option_map-some, option_bind-some}
 
 module _ {X : Type 0} where

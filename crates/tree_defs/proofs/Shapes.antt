@@ -1,11 +1,6 @@
 -- The topology of a tree, which a push and a pop keep.
-use Rattle.std.proofs.Common.{◌≡◌, ℕ, zero, suc, ◌+◌, List, [], ◌∷◌, length, Some, refl, ap, ◌∙◌, subst, arith}
-use Rattle.std.specs.Prelude.{drop}
+use Rattle.tree_defs.proofs.Prelude.{◌≡◌, Some, [], ap, arith, refl, subst, ℕ, ◌∙◌, ◌∷◌, suc, List, length, zero, ◌+◌, drop, Queue, Taking, take_least, empty_tree, empty_trees, of_first, of_inner, of_later, of_leaf, pop, pop_child, push, push_child, Topology, topologies_of, topology_of, leaf, Address, LeadsToLeaf, Trees, inner, more, none, LeadsBelow, Tree, Popping, SameShape, SameShapes, depth, depth_below, nodes, nodes_below}
 use Rattle.std.specs.Option.{option_map}
-use Rattle.tree_defs.specs.Queue.{Queue, Taking, take_least}
-use Rattle.tree_defs.specs.Tree.{Tree, leaf, inner, Trees, none, more, Address, Popping, LeadsToLeaf, LeadsBelow, SameShape, SameShapes, depth, depth_below, nodes, nodes_below}
-use Rattle.tree_defs.specs.Topology.{Topology, topology_of, topologies_of}
-use Rattle.tree_defs.specs.SourceTree.{empty_tree, empty_trees, push, push_child, pop, pop_child, of_leaf, of_inner, of_first, of_later}
 use Rattle.tree_defs.specs.Laws.{LedToALeaf}
 use Rattle.tree_defs.proofs.Options.{option_map-some, option_bind-some}
 

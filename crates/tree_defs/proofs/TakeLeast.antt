@@ -1,9 +1,5 @@
 -- The pair that a queue dequeues.
-use Rattle.std.proofs.Common.{◌≡◌, ℕ, ◌+◌, ◌≤◌, ◌<◌, [], ◌∷◌, ◌++◌, Some, None, refl, sym, ap, ◌∙◌, subst, arith, inl, inr, length, suc}
-use Rattle.std.proofs.lemmas.Bool.{le-leb, lt-leb, cases_lt}
-use Rattle.std.specs.List.{AllByRecursion}
-use Rattle.tree_defs.specs.Queue.{Queue, Entry, Taking, put, sooner, take_from, take_least}
-use Rattle.tree_defs.specs.QueueLaws.{LeavesFrom, EarliestOfTheLeastLeaves, NothingLeavesAnEmptyQueue}
+use Rattle.tree_defs.proofs.Prelude.{◌≡◌, Some, [], ap, arith, refl, subst, ℕ, ◌∙◌, ◌∷◌, suc, length, sym, ◌+◌, None, ◌++◌, inl, inr, ◌<◌, ◌≤◌, cases_lt, le-leb, lt-leb, AllByRecursion, Queue, Taking, take_least, put, Entry, take_from, sooner, LeavesFrom, EarliestOfTheLeastLeaves, NothingLeavesAnEmptyQueue}
 
 -- every rank is at least m
 abbrev pub NoneBelow : ℕ → Queue → Type 0

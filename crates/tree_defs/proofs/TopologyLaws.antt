@@ -1,8 +1,5 @@
 -- Leaf addresses, prefixes, and the addresses of complete trees.
-use Rattle.std.proofs.Common.{◌≡◌, ℕ, zero, suc, ◌<◌, List, [], ◌∷◌, ◌++◌, length, None, Some, refl, sym, ap, ◌∙◌, subst, arith, inl, inr, eqb, eq-eqb}
-use Rattle.std.proofs.lemmas.Bool.{eqb-true, cases_Bool}
-use Rattle.tree_defs.specs.Tree.{Tree, leaf, inner, Trees, none, more, Address, subtree, subtree_in, IsAddressOf, LeadsToLeaf, LeadsBelow}
-use Rattle.tree_defs.specs.Topology.{Topology, after, copies, complete, IsWithin}
+use Rattle.tree_defs.proofs.Prelude.{◌≡◌, Some, [], ap, arith, refl, subst, ℕ, ◌∙◌, ◌∷◌, suc, List, length, sym, zero, None, ◌++◌, inl, inr, ◌<◌, eq-eqb, eqb, cases_Bool, eqb-true, Topology, after, IsWithin, complete, copies, leaf, Address, LeadsToLeaf, Trees, inner, more, none, LeadsBelow, Tree, subtree, subtree_in, IsAddressOf}
 
 -- an address leads to a leaf if there is a leaf at it
 mutual

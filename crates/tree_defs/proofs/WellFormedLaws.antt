@@ -1,12 +1,7 @@
 -- A push and a pop keep a tree well formed.
-use Rattle.std.proofs.Common.{◌≡◌, ◌≢◌, ℕ, zero, suc, ◌+◌, ◌<◌, ◌≤◌, ◌↔◌, List, [], ◌∷◌, length, Some, None, refl, sym, ap, ◌∙◌, subst, arith, inl, inr, eq-eqb}
-use Rattle.std.specs.Prelude.{option_map, slice_index, drop}
-use Rattle.std.proofs.lemmas.Bool.{cases_lt, ne_eqb}
-use Rattle.tree_defs.specs.Queue.{Queue, put, Taking, take_least, take_from}
+use Rattle.tree_defs.proofs.Prelude.{◌≡◌, Some, [], ap, arith, refl, subst, ℕ, ◌∙◌, ◌∷◌, suc, List, length, sym, zero, ◌+◌, None, inl, inr, ◌<◌, eq-eqb, ◌≢◌, ◌≤◌, ◌↔◌, cases_lt, ne_eqb, drop, slice_index, Queue, Taking, take_least, put, take_from, empty_tree, empty_trees, of_first, of_inner, of_later, of_leaf, pop, pop_child, push, push_child, AreWellFormed, IsWellFormed, size, times, AreInRange, IsInRange, NamesChildren, sizes, Topology, leaf, LeadsToLeaf, Trees, inner, more, none, LeadsBelow, Tree, Popping, HasChild, root_of}
+use Rattle.std.specs.Prelude.{option_map}
 use Rattle.tree_defs.proofs.TakeLeast.{take_from-front, take_from-behind, length-put, length-rest}
-use Rattle.tree_defs.specs.Tree.{Tree, leaf, inner, Trees, none, more, root_of, Popping, LeadsToLeaf, LeadsBelow, HasChild}
-use Rattle.tree_defs.specs.Topology.{Topology}
-use Rattle.tree_defs.specs.SourceTree.{empty_tree, empty_trees, push, push_child, pop, pop_child, of_leaf, of_inner, of_first, of_later, NamesChildren, size, sizes, times, IsWellFormed, AreWellFormed, IsInRange, AreInRange}
 use Rattle.tree_defs.proofs.Options.{option_map-some, option_bind-some}
 
 pub times-put_same : (i r : ℕ) (q : Queue) → times i (put q r i) ≡ times i q + 1

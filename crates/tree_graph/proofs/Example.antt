@@ -1,7 +1,5 @@
 -- A forest of four nodes.
-use Rattle.std.proofs.Common.{◌≡◌, ◌≢◌, ℕ, zero, suc, ◌+◌, ◌<◌, ◌≤◌, [], ◌∷◌, refl, ap, subst, arith, inl, inr, Contains}
-use Rattle.std.proofs.lemmas.List.Elements.{Contains-get_or, Contains-push_cases}
-use Rattle.tree_graph.specs.Descent.{IsChild, Leads, IsDeep, IsForest, HasOneParent, two_below_a_root}
+use Rattle.tree_graph.proofs.Prelude.{arith, ℕ, ap, ◌<◌, ◌≡◌, subst, [], ◌+◌, suc, refl, ◌∷◌, ◌≤◌, inl, inr, zero, Contains, ◌≢◌, Contains-get_or, Contains-push_cases, IsChild, Leads, IsForest, IsDeep, HasOneParent, two_below_a_root}
 
 no-member : {X : Type 0} (j : X) → Contains [] j → ⊥
 no-member j there = (let l : there.0 < 0 = there.1 in absurd (omega arith))

@@ -1,12 +1,5 @@
 -- The first node on a cycle, and the first node that is too deep.
-use Rattle.std.proofs.Common.{◌≡◌, ◌≢◌, ℕ, ◌+◌, ◌<◌, ◌≤◌, ◌⊎◌, Bool, true, false, List, [], ◌∷◌, ◌++◌, length, refl, sym, ap, subst, ◌∙◌, arith, inl, inr, true≢false, Contains, get_or, Option, None, Some, MatchOption, is_some, not, IsTrue, ◌↔◌, slice_index, take}
-use Rattle.std.proofs.Math.ListN.{set, length-set}
-use Rattle.std.proofs.lemmas.Bool.{cases_eq}
-use Rattle.std.proofs.lemmas.List.{get_or_default, get_or-set_same, get_or-set_other, take_more}
-use Rattle.std.proofs.lemmas.List.Elements.{Contains-push, Contains-push_cases, Contains-append_left}
-use Rattle.tree_defs.specs.Tree.{most_levels}
-use Rattle.tree_graph.specs.Descent.{Graph, Leads, IsBelow, IsForest, IsDeep, ArePointed}
-use Rattle.tree_graph.specs.Marks.{is_marked}
+use Rattle.tree_graph.proofs.Prelude.{arith, ℕ, length, ap, sym, ◌<◌, ◌≡◌, subst, ◌∙◌, List, [], ◌+◌, refl, ◌∷◌, ◌≤◌, ◌++◌, get_or, inl, inr, Contains, take, ◌≢◌, Bool, false, slice_index, true≢false, true, ◌↔◌, ◌⊎◌, IsTrue, not, MatchOption, None, Option, Some, is_some, set, length-set, cases_eq, get_or_default, take_more, get_or-set_other, get_or-set_same, Contains-push_cases, Contains-append_left, Contains-push, most_levels, Graph, Leads, IsForest, IsDeep, ArePointed, IsBelow, is_marked}
 use Rattle.tree_graph.proofs.Steps.{one_depth}
 
 pub marked-at : (m : List Bool) (i : ℕ) (b : Bool) → i < length m → b ≡ get_or m i b → is_marked m i ≡ b

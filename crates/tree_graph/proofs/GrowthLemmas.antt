@@ -1,18 +1,7 @@
 -- A tree that is built child by child.
-use Rattle.std.proofs.Common.{◌≡◌, ℕ, zero, suc, ◌+◌, ◌<◌, ◌≤◌, ◌-◌, List, [], ◌∷◌, ◌++◌, length, map, refl, sym, ap, subst, ◌∙◌, arith, take, drop, get_or, length-append, append_assoc, Contains, Vec}
-use Rattle.std.proofs.Math.ListN.{set}
-use Rattle.std.proofs.lemmas.List.{append-nil, take_more, take_all, length-take}
+use Rattle.tree_graph.proofs.Prelude.{arith, ℕ, length, ap, sym, ◌<◌, ◌≡◌, subst, ◌∙◌, List, [], ◌+◌, suc, refl, ◌∷◌, ◌≤◌, ◌++◌, get_or, zero, Contains, take, drop, length-append, map, ◌-◌, Vec, append_assoc, set, take_more, append-nil, take_all, length-take, Contains-get_or, Global, branch, Topology, topologies_of, topology_of, inner, Tree, Trees, leaf, more, none, nodes, root_of, Address, count_of, nodes_below, trees_of, Graph, lists, IsChild, children, IsWithin, HasRoom, ArePartsOf, HasGrown, IsPartOf, AreTreesOf, IsTreeOf, labels, rows, rows_below, starts, Row, row}
 use Rattle.std.proofs.Math.Seq.{take-append_seam}
-use Rattle.std.proofs.lemmas.List.Elements.{Contains-get_or}
-use Rattle.std.specs.declared.alloc.Global.{Global}
-use Rattle.tree_defs.specs.Tree.{Tree, leaf, inner, Trees, none, more, Address, root_of, nodes, nodes_below, count_of, trees_of}
-use Rattle.tree_defs.specs.Topology.{Topology, topology_of, topologies_of}
-use Rattle.tree_core.specs.TreeContents.{branch}
 use Rattle.tree_graph.proofs.MarkLemmas.{children-at}
-use Rattle.tree_graph.specs.Descent.{lists, Graph, children, IsChild, IsWithin}
-use Rattle.tree_graph.specs.Row.{Row, row}
-use Rattle.tree_graph.specs.Preorder.{labels, IsTreeOf, AreTreesOf, starts, rows, rows_below}
-use Rattle.tree_graph.specs.Growth.{IsPartOf, ArePartsOf, HasRoom, HasGrown}
 
 -- appends one tree
 abbrev pub snoc : {Q : Type 0} → Trees Q → Tree Q → Trees Q

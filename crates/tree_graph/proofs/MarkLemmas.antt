@@ -1,13 +1,5 @@
 -- Marking the descendants of a node.
-use Rattle.std.proofs.Common.{◌≡◌, ◌≢◌, ℕ, zero, suc, ◌+◌, ◌<◌, ◌≤◌, ◌⊎◌, Bool, true, false, not, cond, List, [], ◌∷◌, ◌++◌, length, refl, sym, ap, subst, ◌∙◌, arith, inl, inr, true≢false, Contains, All, get_or, replicate, IsTrue, ◌↔◌, Vec, length-append, take, drop}
-use Rattle.std.proofs.Math.ListN.{set, length-set}
-use Rattle.std.proofs.lemmas.List.{append-nil, take_more, take_all}
-use Rattle.std.proofs.lemmas.List.Sums.{sum_by-cons}
-use Rattle.std.specs.declared.alloc.Global.{Global}
-use Rattle.std.proofs.lemmas.Bool.{cases_eq}
-use Rattle.std.proofs.lemmas.List.Elements.{Contains-get_or, Contains-push, Contains-push_cases, Contains-append_left}
-use Rattle.tree_graph.specs.Descent.{Graph, lists, children, IsChild, Leads, IsBelow, AreInRange}
-use Rattle.tree_graph.specs.Marks.{MarksMore, MarksBelow, is_marked, unmarked}
+use Rattle.tree_graph.proofs.Prelude.{arith, ℕ, length, ap, sym, ◌<◌, ◌≡◌, subst, ◌∙◌, List, [], ◌+◌, suc, refl, ◌∷◌, ◌≤◌, ◌++◌, get_or, inl, inr, zero, Contains, take, ◌≢◌, Bool, drop, false, length-append, true≢false, All, true, ◌↔◌, ◌⊎◌, IsTrue, Vec, cond, not, replicate, set, length-set, cases_eq, take_more, append-nil, take_all, Contains-get_or, Contains-push_cases, Contains-append_left, Contains-push, sum_by-cons, Global, Graph, lists, IsChild, Leads, children, IsBelow, AreInRange, MarksBelow, MarksMore, is_marked, unmarked}
 use Rattle.tree_graph.proofs.Steps.{below-step, below-within}
 
 no_member : {X : Type 0} (x : X) → Contains [] x → ⊥

@@ -1,17 +1,6 @@
 -- The tree of a forest contains each node once, and no part of it contains a node twice.
-use Rattle.std.proofs.Common.{◌≡◌, ◌≢◌, ℕ, zero, suc, ◌+◌, ◌<◌, ◌≤◌, ◌||◌, cond, true, false, List, [], ◌∷◌, ◌++◌, length, refl, sym, ap, subst, ◌∙◌, arith, inl, inr, true≢false, Contains, sum_by, length-append}
-use Rattle.std.proofs.lemmas.Bool.{cases_eq, cases_lt, cases_Bool, eq-eqb, ne_eqb, eqb-true}
-use Rattle.std.proofs.lemmas.List.Sums.{sum_by-append, sum_by-cons}
-use Rattle.std.proofs.lemmas.List.Elements.{Contains-append_right, Contains-get_or}
-use Rattle.std.proofs.lemmas.Map.Keys.{IsDistinct-cons}
-use Rattle.std.proofs.lemmas.Map.Steps.{length-le_from_distinct_below, le-length_from_below}
-use Rattle.std.specs.List.{IsDistinct, list_any}
+use Rattle.tree_graph.proofs.Prelude.{arith, ℕ, length, ap, sym, ◌<◌, ◌≡◌, subst, ◌∙◌, List, [], ◌+◌, suc, refl, ◌∷◌, ◌≤◌, ◌++◌, inl, inr, zero, Contains, ◌≢◌, false, length-append, true≢false, true, cond, ◌||◌, sum_by, get_or-eq_default, cases_eq, cases_lt, eqb-true, cases_Bool, eq-eqb, ne_eqb, Contains-get_or, Contains-append_right, sum_by-cons, sum_by-append, IsDistinct-cons, length-le_from_distinct_below, le-length_from_below, list_any, IsDistinct, inner, Tree, Trees, leaf, more, none, nodes, root_of, nodes_below, Graph, IsChild, Leads, children, IsForest, AreInRange, HasOneParent, times, HasRoom, ArePartsOf, IsPartOf, AreTreesOf, IsTreeOf, labels, preorder, preorder_below}
 use Rattle.std.specs.Bool.{nat_eq}
-use Rattle.std.proofs.Math.ListN.{get_or-eq_default}
-use Rattle.tree_defs.specs.Tree.{Tree, leaf, inner, Trees, none, more, root_of, nodes, nodes_below}
-use Rattle.tree_graph.specs.Descent.{Graph, children, IsChild, AreInRange, Leads, IsForest, HasOneParent, times}
-use Rattle.tree_graph.specs.Preorder.{labels, IsTreeOf, AreTreesOf, preorder, preorder_below}
-use Rattle.tree_graph.specs.Growth.{IsPartOf, ArePartsOf, HasRoom}
 use Rattle.tree_graph.proofs.Steps.{reached, unlisted, Leads-last, none_equal, nothing}
 
 -- 1 for the same node, 0 for another

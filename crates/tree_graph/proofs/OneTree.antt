@@ -1,9 +1,5 @@
 -- A graph has one tree below a node.
-use Rattle.std.proofs.Common.{◌≡◌, ℕ, suc, List, length, refl, sym, ap, ◌∙◌, arith, get_or}
-use Rattle.std.specs.Prelude.{drop}
-use Rattle.tree_defs.specs.Tree.{Tree, leaf, inner, Trees, none, more, root_of}
-use Rattle.tree_graph.specs.Descent.{Graph, children}
-use Rattle.tree_graph.specs.Preorder.{labels, IsTreeOf, AreTreesOf}
+use Rattle.tree_graph.proofs.Prelude.{arith, ℕ, length, ap, sym, ◌≡◌, ◌∙◌, List, suc, refl, get_or, drop, inner, Tree, Trees, leaf, more, none, root_of, Graph, children, AreTreesOf, IsTreeOf, labels}
 
 mutual
   pub one-tree : (g : Graph) (t u : Tree ℕ) → IsTreeOf g t → IsTreeOf g u → root_of t ≡ root_of u → t ≡ u

@@ -1,9 +1,5 @@
 -- Parents, computed from the lists of children.
-use Rattle.std.proofs.Common.{◌≡◌, ◌≢◌, ℕ, zero, suc, ◌+◌, ◌<◌, ◌≤◌, ◌⊎◌, All, List, [], length, replicate, refl, sym, ap, subst, ◌∙◌, arith, inl, inr, get_or, slice_index, Contains}
-use Rattle.std.proofs.lemmas.Bool.{cases_eq, cases_lt}
-use Rattle.std.proofs.lemmas.List.{get_or_default}
-use Rattle.std.proofs.Math.ListN.{get_or-eq_default}
-use Rattle.tree_graph.specs.Descent.{Graph, children, IsChild, AreParents, ArePointed}
+use Rattle.tree_graph.proofs.Prelude.{arith, ℕ, length, ap, sym, ◌<◌, ◌≡◌, subst, ◌∙◌, List, [], ◌+◌, suc, refl, ◌≤◌, get_or, inl, inr, zero, Contains, ◌≢◌, slice_index, All, ◌⊎◌, replicate, get_or-eq_default, cases_eq, cases_lt, get_or_default, Graph, IsChild, children, AreParents, ArePointed}
 
 -- the parents after the lists of the first nodes
 pub record ArePointedTo (g : Graph) (node : ℕ) (parents : List ℕ) : Type 0 where

@@ -1,11 +1,5 @@
 -- The rows of a tree: addresses, children's indices, and leaves.
-use Rattle.std.proofs.Common.{◌≡◌, ℕ, zero, suc, ◌+◌, ◌<◌, ◌≤◌, ◌-◌, ◌↔◌, List, [], ◌∷◌, ◌++◌, length, refl, sym, ap, subst, ◌∙◌, arith, inl, inr, slice_index, append_assoc, length-append}
-use Rattle.std.proofs.lemmas.Bool.{cases_lt}
-use Rattle.std.proofs.lemmas.List.{get_or_append_left, get_or-append-add}
-use Rattle.tree_defs.specs.Tree.{Tree, leaf, inner, Trees, none, more, Address, nodes, count_of, LeadsToLeaf, LeadsBelow}
-use Rattle.tree_defs.specs.Topology.{topology_of, topologies_of, IsBranched, AreBranched}
-use Rattle.tree_graph.specs.Row.{Row, row, row_at, nodes_of}
-use Rattle.tree_graph.specs.Preorder.{starts, rows, rows_below, preorder, preorder_below}
+use Rattle.tree_graph.proofs.Prelude.{arith, ℕ, length, ap, sym, ◌<◌, ◌≡◌, subst, ◌∙◌, List, [], ◌+◌, suc, refl, ◌∷◌, ◌≤◌, ◌++◌, inl, inr, zero, length-append, slice_index, ◌-◌, ◌↔◌, append_assoc, cases_lt, get_or-append-add, get_or_append_left, topologies_of, topology_of, AreBranched, IsBranched, inner, Tree, Trees, leaf, more, none, nodes, Address, LeadsToLeaf, count_of, LeadsBelow, rows, preorder, preorder_below, rows_below, starts, Row, row, nodes_of, row_at}
 use Rattle.tree_graph.proofs.GrowthLemmas.{length-rows, nodes-some}
 
 nodes_of-append : (xs ys : List Row) → nodes_of (xs ++ ys) ≡ nodes_of xs ++ nodes_of ys

@@ -1,12 +1,7 @@
 -- Steps from a node to its descendants. Each node of a forest is reached from the root.
-use Rattle.std.proofs.Common.{◌≡◌, ◌≢◌, ℕ, zero, suc, ◌+◌, ◌<◌, ◌≤◌, ◌⊎◌, ◌||◌, true, false, List, [], ◌∷◌, length, refl, sym, ap, subst, ◌∙◌, arith, inl, inr, true≢false, slice_index}
-use Rattle.std.proofs.lemmas.Bool.{cases_eq, cases_lt, cases_Bool, eqb-true, or_cases}
-use Rattle.std.proofs.lemmas.Map.Keys.{IsDistinct-cons}
-use Rattle.std.proofs.lemmas.Map.Steps.{length-le_from_distinct_below}
-use Rattle.std.proofs.Math.ListN.{get_or-eq_default}
-use Rattle.std.specs.List.{IsDistinct, AllByRecursion, list_any}
+use Rattle.tree_graph.proofs.Prelude.{arith, ℕ, length, ap, sym, ◌<◌, ◌≡◌, subst, ◌∙◌, List, [], ◌+◌, suc, refl, ◌∷◌, ◌≤◌, inl, inr, zero, ◌≢◌, false, slice_index, true≢false, true, ◌⊎◌, ◌||◌, get_or-eq_default, cases_eq, cases_lt, eqb-true, cases_Bool, or_cases, IsDistinct-cons, length-le_from_distinct_below, list_any, AllByRecursion, Graph, IsChild, Leads, children, IsForest, IsDeep, AreParents, IsBelow, AreInRange}
+use Rattle.std.specs.List.{IsDistinct}
 use Rattle.std.specs.Bool.{nat_eq}
-use Rattle.tree_graph.specs.Descent.{Graph, children, IsChild, Leads, IsBelow, IsForest, AreParents, IsDeep, AreInRange}
 
 -- one more step at the end
 pub Leads-push : (g : Graph) (k : ℕ) (a b c : ℕ) → Leads g k a b → IsChild g b c → Leads g (suc k) a c

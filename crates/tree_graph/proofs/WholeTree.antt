@@ -1,14 +1,6 @@
 -- The whole tree of a forest, in which no node is too deep.
-use Rattle.std.proofs.Common.{◌≡◌, ℕ, zero, suc, ◌+◌, ◌<◌, ◌≤◌, ◌^◌, List, [], ◌∷◌, ◌++◌, length, refl, sym, ap, subst, ◌∙◌, arith, inl, inr, Contains, max, ◌-◌, ◌↔◌, get_or, slice_index, Bool, IsTrue, nat_eq}
-use Rattle.std.proofs.lemmas.Bool.{cases_lt, eqb-true}
-use Rattle.std.proofs.lemmas.List.{get_or_default}
-use Rattle.std.proofs.lemmas.List.Elements.{Contains-append_right, Contains-get_or}
-use Rattle.tree_defs.specs.Tree.{Tree, leaf, inner, Trees, none, more, root_of, nodes, depth, depth_below, LeadsToLeaf, most_levels}
-use Rattle.tree_defs.specs.Topology.{Topology, topology_of, topologies_of, IsBranched, AreBranched}
-use Rattle.tree_graph.specs.Descent.{Graph, IsChild, Leads, IsForest, IsDeep, IsWithin, times}
-use Rattle.tree_graph.specs.Row.{Row, row, row_at, nodes_of}
-use Rattle.tree_graph.specs.Preorder.{labels, IsTreeOf, AreTreesOf, rows, Numbered, numbered, IsTreeBelow, IsSound}
-use Rattle.tree_graph.specs.Growth.{HasGrown}
+use Rattle.tree_graph.proofs.Prelude.{arith, ℕ, length, ap, sym, ◌<◌, ◌≡◌, subst, ◌∙◌, List, [], ◌+◌, suc, refl, ◌∷◌, ◌≤◌, ◌++◌, get_or, inl, inr, zero, Contains, Bool, slice_index, ◌-◌, ◌↔◌, IsTrue, max, ◌^◌, cases_lt, eqb-true, get_or_default, Contains-get_or, Contains-append_right, Topology, topologies_of, topology_of, AreBranched, IsBranched, inner, Tree, Trees, leaf, more, none, nodes, root_of, LeadsToLeaf, depth, most_levels, depth_below, Graph, IsChild, Leads, IsForest, IsDeep, IsWithin, times, HasGrown, AreTreesOf, IsTreeOf, labels, rows, Numbered, IsSound, IsTreeBelow, numbered, Row, row, nodes_of, row_at}
+use Rattle.std.proofs.Common.{nat_eq}
 use Rattle.tree_graph.proofs.Steps.{below-within}
 use Rattle.tree_graph.proofs.GrowthLemmas.{within-child, length-rows, tree-is_part}
 use Rattle.tree_graph.proofs.NodesOnce.{each_once, nodes-all, room-root}

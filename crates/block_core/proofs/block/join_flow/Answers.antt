@@ -1,8 +1,4 @@
-use Rattle.std.proofs.Common.{◌≡◌, ◌∷◌, rules, arith, IsOk, heap_items, deque_len}
-use Rattle.std.specs.List.Sorted.{IsPermutation}
-use Rattle.std.specs.declared.cmp.Reverse.{Reverse}
-use Rattle.std.proofs.lemmas.Bool.Decides.{nat_tests}
-use Rattle.block_core.specs.declared.waiting.Waiting.{Waiting}
+use Rattle.block_core.proofs.Prelude.{arith, ◌≡◌, ◌∷◌, heap_items, rules, deque_len, IsOk, nat_tests, IsPermutation, Reverse, Waiting}
 use Rattle.block_core.proofs.BlockLaws.{heads_led}
 use Rattle.block_core.proofs.block.join_flow.Goals as goal
 

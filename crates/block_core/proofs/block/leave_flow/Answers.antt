@@ -1,10 +1,4 @@
-use Rattle.std.proofs.Common.{◌≡◌, ◌<◌, ◌+◌, ◌∷◌, rules, arith, subst, IsOk, heap_items, deque_len}
-use Rattle.std.specs.List.Sorted.{IsPermutation}
-use Rattle.std.specs.declared.cmp.Reverse.{Reverse}
-use Rattle.block_core.specs.declared.waiting.Waiting.{Waiting}
-use Rattle.block_core.specs.Arrival.{weight}
-use Rattle.block_core.specs.Stores.{head_of}
-use Rattle.block_core.specs.Block.{held}
+use Rattle.block_core.proofs.Prelude.{arith, ◌≡◌, subst, ◌+◌, ◌<◌, ◌∷◌, heap_items, rules, deque_len, IsOk, IsPermutation, Reverse, weight, held, head_of, Waiting}
 use Rattle.block_core.proofs.BlockLaws.{heads_next}
 use Rattle.block_core.proofs.block.leave_flow.Goals as goal
 

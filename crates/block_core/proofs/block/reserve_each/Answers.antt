@@ -1,7 +1,5 @@
-use Rattle.std.proofs.Common.{refl, ◌≡◌, ◌<◌, ◌+◌, ◌∙◌, ℕ, suc, arith, ap, sym, subst, length, take, set, deque_items, deque_len, deque_capacity, length-set}
-use Rattle.std.proofs.lemmas.List.{map-set, length-map}
+use Rattle.block_core.proofs.Prelude.{arith, ◌≡◌, sym, length, subst, ℕ, ◌∙◌, ap, refl, ◌+◌, ◌<◌, deque_items, suc, set, deque_len, deque_capacity, take, length-set, length-map, map-set, HasSpare, rooms}
 use Rattle.std.proofs.Math.Seq.{map-set_same}
-use Rattle.block_core.specs.Block.{HasSpare, rooms}
 use Rattle.block_core.proofs.PartLaws.{room_at, room_set, room_done}
 use Rattle.block_core.proofs.block.reserve_each.Goals as goal
 

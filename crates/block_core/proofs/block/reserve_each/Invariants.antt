@@ -1,5 +1,4 @@
-use Rattle.std.proofs.Common.{◌≡◌, ℕ, length, map, take, deque_items}
-use Rattle.block_core.specs.Block.{HasSpare, rooms}
+use Rattle.block_core.proofs.Prelude.{◌≡◌, length, ℕ, map, deque_items, take, HasSpare, rooms}
 use Rattle.block_core.proofs.block.reserve_each.Given as goal
 
 abbrev pub invariant-loop-flow : goal.invariant-loop-flow

@@ -1,8 +1,4 @@
-use Rattle.std.proofs.Common.{◌≡◌, ◌<◌, true, false, rules, arith, sym, subst, length, heap_items}
-use Rattle.std.specs.List.{AllByRecursion}
-use Rattle.std.specs.BinaryHeap.{IsUpperBound}
-use Rattle.block_core.specs.Arrival.{Precedes}
-use Rattle.block_core.specs.Block.{held, heap_order}
+use Rattle.block_core.proofs.Prelude.{arith, ◌≡◌, sym, length, subst, ◌<◌, heap_items, rules, false, true, IsUpperBound, AllByRecursion, Precedes, held, heap_order}
 use Rattle.block_core.proofs.BlockLaws.{top_is, heap_behind}
 use Rattle.block_core.proofs.block.spill_is_first.Goals as goal
 

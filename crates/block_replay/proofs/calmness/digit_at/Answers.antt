@@ -1,6 +1,5 @@
-use Rattle.std.proofs.Common.{◌∙◌}
+use Rattle.block_replay.proofs.Prelude.{◌∙◌, address_at}
 use Rattle.mapcheck_core.proofs.ComposedImages.{the-image}
-use Rattle.policy_core.specs.Numbering.{address_at}
 use Rattle.block_replay.proofs.OwnDigits.{parent_address, some_image, longer_child}
 use Rattle.block_replay.proofs.calmness.digit_at.Goals as goal
 

@@ -1,5 +1,4 @@
-use Rattle.std.proofs.Common.{◌≡◌}
-use Rattle.policy_core.specs.Numbering.{address_at}
+use Rattle.block_replay.proofs.Prelude.{◌≡◌, address_at}
 use Rattle.block_replay.specs.Calm.{digit_at}
 use Rattle.block_replay.proofs.OwnDigits.{DiffersBelow}
 use Rattle.block_replay.proofs.calmness.has_own_digit.Given as goal

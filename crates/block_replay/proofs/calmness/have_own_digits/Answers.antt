@@ -1,6 +1,4 @@
-use Rattle.std.proofs.Common.{refl, arith}
-use Rattle.tree_core.specs.Shape.{topology}
-use Rattle.policy_core.specs.Numbering.{address_at}
+use Rattle.block_replay.proofs.Prelude.{refl, arith, address_at, topology}
 use Rattle.block_replay.proofs.OwnDigits.{in_images, in_tree}
 use Rattle.block_replay.proofs.Topologies.{tree_children}
 use Rattle.block_replay.proofs.calmness.have_own_digits.Goals as goal

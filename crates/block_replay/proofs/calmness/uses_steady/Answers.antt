@@ -1,7 +1,4 @@
-use Rattle.std.proofs.Common.{◌∙◌, sym, codes}
-use Rattle.std.proofs.lemmas.Slice.Eq.{bytes_eq-Decides}
-use Rattle.policy_core.specs.Numbering.{address_at}
-use Rattle.policy_core.proofs.NumberedAddresses.{address-undone}
+use Rattle.block_replay.proofs.Prelude.{◌∙◌, sym, codes, bytes_eq-Decides, address-undone, address_at}
 use Rattle.block_replay.proofs.CalmNodes.{leaf_steady, inner_steady}
 use Rattle.block_replay.proofs.calmness.uses_steady.Goals as goal
 

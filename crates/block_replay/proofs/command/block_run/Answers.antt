@@ -1,11 +1,5 @@
-use Rattle.std.proofs.Common.{[]}
+use Rattle.block_replay.proofs.Prelude.{[], exactly_told, known-status, refusal, IsOutput, no_form, IsCalmTold, end_status}
 use Rattle.report_core.specs.declared.fault.FaultKind.TheVariants as kind
-use Rattle.replay_app.specs.Answer.{refusal}
-use Rattle.replay_app.specs.Output.{IsOutput}
-use Rattle.replay_app.specs.Words.{no_form}
-use Rattle.replay_app.proofs.FollowLaws.{exactly_told, known-status}
-use Rattle.block_replay.specs.Output.{IsCalmTold}
-use Rattle.block_replay.specs.Words.{end_status}
 use Rattle.block_replay.proofs.Counted.{uncounted, none_behind_unused}
 use Rattle.block_replay.proofs.Ends.{calm_runs_nothing, ends_given, still}
 use Rattle.block_replay.proofs.command.block_run.Goals as goal

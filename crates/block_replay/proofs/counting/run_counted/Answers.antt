@@ -1,7 +1,4 @@
-use Rattle.std.proofs.Common.{◌≡◌, ◌-◌, refl, sym, subst, arith}
-use Rattle.replay_app.specs.Statuses.{IsStop}
-use Rattle.replay_app.specs.Words.{form_in}
-use Rattle.replay_app.proofs.AnswerLaws.{is_stop}
+use Rattle.block_replay.proofs.Prelude.{refl, ◌≡◌, arith, sym, subst, ◌-◌, is_stop, IsStop, form_in}
 use Rattle.block_replay.proofs.Counted.{uncounted, none_behind, fabric_counted, fabric_stopped, whole_line, part_of_line}
 use Rattle.block_replay.proofs.counting.run_counted.Goals as goal
 

@@ -1,9 +1,6 @@
-use Rattle.std.proofs.Common.{◌∷◌, []}
+use Rattle.block_replay.proofs.Prelude.{[], ◌∷◌, told-later, accepted_told, refused_told, policies_are_one}
 use Rattle.report_core.specs.declared.fault.FaultKind.TheVariants as kind
 use Rattle.replay_app.specs.Policies.{judged_of}
-use Rattle.replay_app.proofs.AnswerLaws.{told-later}
-use Rattle.replay_app.proofs.FollowLaws.{accepted_told, refused_told}
-use Rattle.replay_app.proofs.Inputs.{policies_are_one}
 use Rattle.block_replay.proofs.verdict.tell_files.Goals as goal
 
 pub returns-in-Accepted-clause-answer : goal.returns-in-Accepted-clause-answer

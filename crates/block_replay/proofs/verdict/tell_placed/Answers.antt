@@ -1,15 +1,7 @@
-use Rattle.std.proofs.Common.{refl, ap, subst, ◌∙◌}
-use Rattle.std.specs.Prelude.{Err}
+use Rattle.block_replay.proofs.Prelude.{refl, ◌∙◌, ap, subst, Err, image_map, accepted_told, refused_told, exactly_told, rooms_are_one, placement, status_code, topology_of, Topology, complete, SameShape, calm_answer}
 use Rattle.std.proofs.lemmas.Result.{IfOk-weaker}
-use Rattle.tree_defs.specs.Tree.{SameShape}
-use Rattle.tree_defs.specs.Topology.{Topology, topology_of, complete}
 use Rattle.embed_defs.specs.Embedding.{IsEmbedding, HasEmbedding}
-use Rattle.embed_defs.specs.Images.{image_map}
 use Rattle.report_core.specs.declared.fault.FaultKind.TheVariants as kind
-use Rattle.replay_app.specs.Statuses.{status_code}
-use Rattle.replay_app.proofs.FollowLaws.{accepted_told, refused_told, exactly_told}
-use Rattle.replay_app.proofs.Inputs.{rooms_are_one, placement}
-use Rattle.block_replay.specs.Output.{calm_answer}
 use Rattle.block_replay.proofs.verdict.tell_placed.Goals as goal
 
 pub calm-requires : goal.calm-requires

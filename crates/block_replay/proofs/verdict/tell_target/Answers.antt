@@ -1,6 +1,5 @@
 use Rattle.report_core.specs.declared.fault.FaultKind.TheVariants as kind
-use Rattle.replay_app.proofs.FollowLaws.{accepted_told, refused_told}
-use Rattle.replay_app.proofs.Inputs.{targets_are_one}
+use Rattle.block_replay.proofs.Prelude.{accepted_told, refused_told, targets_are_one}
 use Rattle.block_replay.proofs.verdict.tell_target.Goals as goal
 
 pub tell_placed-requires : goal.tell_placed-requires

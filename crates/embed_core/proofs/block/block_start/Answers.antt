@@ -1,11 +1,4 @@
-use Rattle.std.proofs.Common.{◌≡◌, ℕ, ◌+◌, ◌<◌, List, Vec, Global, length, replicate, sym, ap, ◌∙◌, subst, arith}
-use Rattle.std.proofs.lemmas.List.{length-replicate, with_items_is}
-use Rattle.tree_defs.specs.Tree.{trees_of}
-use Rattle.tree_defs.specs.Topology.{IsWithin}
-use Rattle.embed_defs.specs.Need.{leaves_below}
-use Rattle.embed_defs.specs.Counting.{value}
-use Rattle.embed_defs.specs.Levels.{down_from}
-use Rattle.embed_core.specs.Range.{levels_of}
+use Rattle.embed_core.proofs.Prelude.{◌≡◌, length, arith, sym, ◌∙◌, ap, List, ◌+◌, subst, ℕ, ◌<◌, Global, Vec, replicate, length-replicate, with_items_is, value, down_from, leaves_below, IsWithin, trees_of, levels_of}
 use Rattle.embed_core.proofs.TargetArities.{positive}
 use Rattle.embed_defs.proofs.LeafNumbers.{value-zeros, zeros-within}
 use Rattle.embed_core.proofs.PlacedChildren.{child-lower}

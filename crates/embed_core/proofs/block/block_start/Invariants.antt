@@ -1,10 +1,4 @@
-use Rattle.std.proofs.Common.{◌≡◌, ◌+◌, length, drop}
-use Rattle.tree_defs.specs.Tree.{trees_of}
-use Rattle.tree_defs.specs.Topology.{IsWithin}
-use Rattle.embed_defs.specs.Canonical.{start_of, children}
-use Rattle.embed_defs.specs.Counting.{value}
-use Rattle.embed_defs.specs.Levels.{down_from}
-use Rattle.embed_core.specs.Range.{levels_of}
+use Rattle.embed_core.proofs.Prelude.{◌≡◌, length, ◌+◌, drop, children, start_of, value, down_from, IsWithin, trees_of, levels_of}
 use Rattle.embed_core.proofs.block.block_start.Given as goal
 
 abbrev pub invariant-loop-index : goal.invariant-loop-index

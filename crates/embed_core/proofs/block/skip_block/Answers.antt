@@ -1,5 +1,4 @@
-use Rattle.std.proofs.Common.{◌≡◌, ◌+◌, ◌-◌, length, arith}
-use Rattle.embed_core.specs.Range.{levels_of}
+use Rattle.embed_core.proofs.Prelude.{◌≡◌, length, arith, ◌+◌, ◌-◌, levels_of}
 use Rattle.embed_core.proofs.TargetArities.{wide, narrow}
 use Rattle.embed_core.proofs.NextBlocks.{digit-fits, set-within, raised, carried_on}
 use Rattle.embed_core.proofs.block.skip_block.Goals as goal

@@ -1,9 +1,4 @@
-use Rattle.std.proofs.Common.{◌≡◌, ◌+◌, length}
-use Rattle.tree_defs.specs.Topology.{IsWithin}
-use Rattle.embed_defs.specs.Need.{leaves_below}
-use Rattle.embed_defs.specs.Counting.{value}
-use Rattle.embed_defs.specs.Levels.{down_from}
-use Rattle.embed_core.specs.Range.{levels_of}
+use Rattle.embed_core.proofs.Prelude.{◌≡◌, length, ◌+◌, value, down_from, leaves_below, IsWithin, levels_of}
 use Rattle.embed_core.proofs.block.skip_block.Given as goal
 
 abbrev pub invariant-loop-level : goal.invariant-loop-level

@@ -1,13 +1,6 @@
-use Rattle.std.proofs.Common.{◌≡◌, ℕ, List, [], length, refl, sym, subst, ◌∙◌, arith}
-use Rattle.tree_defs.specs.Topology.{complete}
-use Rattle.tree_core.specs.Shape.{topology}
-use Rattle.embed_defs.specs.Embedding.{IsEmbedding, HasEmbedding}
-use Rattle.embed_defs.specs.Need.{HasHeight}
-use Rattle.embed_defs.specs.Canonical.{canonical}
-use Rattle.embed_defs.specs.Images.{image_map}
+use Rattle.embed_core.proofs.Prelude.{◌≡◌, length, arith, sym, ◌∙◌, List, subst, ℕ, [], refl, canonical, HasEmbedding, IsEmbedding, image_map, HasHeight, topology, complete, levels_of}
 use Rattle.embed_defs.proofs.EmbeddingLaws.{embeddings_need_room-holds, canonical_placements_are_embeddings-holds}
 use Rattle.embed_defs.proofs.CanonicalMaps.{canonical_maps_are_good}
-use Rattle.embed_core.specs.Range.{levels_of}
 use Rattle.embed_core.proofs.ChildNeeds.{same-nodes}
 use Rattle.embed_core.proofs.TargetArities.{wide, own_levels}
 use Rattle.embed_core.proofs.map.embed.Goals as goal

@@ -1,7 +1,5 @@
-use Rattle.std.proofs.Common.{sym}
-use Rattle.tree_core.specs.Shape.{topology}
+use Rattle.embed_core.proofs.Prelude.{sym, topology, levels_of}
 use Rattle.embed_defs.proofs.EmbeddingLaws.{needs_are_least_heights-holds}
-use Rattle.embed_core.specs.Range.{levels_of}
 use Rattle.embed_core.proofs.TargetArities.{wide, least_of_levels}
 use Rattle.embed_core.proofs.map.least_height.Goals as goal
 

@@ -1,8 +1,5 @@
-use Rattle.std.proofs.Common.{◌+◌, ◌≤◌, refl, arith}
-use Rattle.embed_defs.specs.Need.{enough}
-use Rattle.embed_core.specs.Range.{levels_of}
+use Rattle.embed_core.proofs.Prelude.{arith, ◌+◌, refl, ◌≤◌, enough-fits, enough, levels_of}
 use Rattle.embed_core.proofs.TargetArities.{wide}
-use Rattle.embed_defs.proofs.EnoughHeights.{enough-fits}
 use Rattle.embed_core.proofs.LeastHeights.{goes_on, stops, next-carried, few-carried}
 use Rattle.embed_core.proofs.needs.least_above.Goals as goal
 use Rattle.embed_core.proofs.needs.least_above.Goals.{then-carried-gt1, else-carried-gt1+then-not-are_below}

@@ -1,7 +1,4 @@
-use Rattle.std.proofs.Common.{ℕ, ◌-◌, ◌≤◌, ◌≡◌}
-use Rattle.embed_defs.specs.Need.{FitsBelow, enough}
-use Rattle.embed_core.specs.Range.{levels_of}
-use Rattle.embed_defs.proofs.CarriedCounts.{carried}
+use Rattle.embed_core.proofs.Prelude.{◌≡◌, ℕ, ◌≤◌, ◌-◌, carried, FitsBelow, enough, levels_of}
 use Rattle.embed_core.proofs.needs.least_above.Given as goal
 
 abbrev pub invariant-loop-carried : goal.invariant-loop-carried

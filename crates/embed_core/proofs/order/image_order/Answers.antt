@@ -1,6 +1,4 @@
-use Rattle.std.proofs.Common.{◌≡◌, ◌+◌, List, refl, map, sym, ap, ◌∙◌, subst}
-use Rattle.std.proofs.lemmas.List.{take_all}
-use Rattle.embed_core.specs.ImageOrder.{IsImageOrder}
+use Rattle.embed_core.proofs.Prelude.{◌≡◌, sym, ◌∙◌, ap, List, ◌+◌, subst, refl, map, take_all, IsImageOrder}
 use Rattle.embed_core.proofs.ImageOrders.{Entry, AreEntered, entered-more, index_of, sorted-order}
 use Rattle.embed_core.proofs.order.image_order.Goals as goal
 

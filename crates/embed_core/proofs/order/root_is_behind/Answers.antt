@@ -1,5 +1,4 @@
-use Rattle.std.proofs.Common.{◌≡◌, ◌≤◌, length, take, sym, ap, ◌∙◌, arith}
-use Rattle.embed_core.specs.ImageOrder.{is_behind}
+use Rattle.embed_core.proofs.Prelude.{◌≡◌, length, arith, sym, ◌∙◌, ap, ◌≤◌, take, is_behind}
 use Rattle.embed_core.proofs.ImageOrders.{behind-drop, behind-more, behind-other, behind-none}
 use Rattle.embed_core.proofs.order.root_is_behind.Goals as goal
 

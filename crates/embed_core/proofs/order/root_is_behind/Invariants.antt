@@ -1,5 +1,4 @@
-use Rattle.std.proofs.Common.{◌≡◌, drop}
-use Rattle.embed_core.specs.ImageOrder.{is_behind}
+use Rattle.embed_core.proofs.Prelude.{◌≡◌, drop, is_behind}
 use Rattle.embed_core.proofs.order.root_is_behind.Given as goal
 
 abbrev pub invariant-loop-place : goal.invariant-loop-place

@@ -1,6 +1,5 @@
-use Rattle.std.proofs.Common.{◌∷◌, ◌++◌, [], take, get_or, decimal, sym, ap, ◌∙◌, append_assoc}
+use Rattle.embed_plan.proofs.Prelude.{◌++◌, ◌∙◌, ap, sym, take, [], ◌∷◌, append_assoc, get_or, decimal, address_text}
 use Rattle.outside_core.proofs.Joined.{numbers_step}
-use Rattle.embed_plan.specs.Plan.{address_text}
 use Rattle.embed_plan.proofs.lines.put_digits.Goals as goal
 
 pub loop-digit-preserved : goal.loop-digit-preserved

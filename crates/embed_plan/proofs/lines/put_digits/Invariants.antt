@@ -1,5 +1,4 @@
-use Rattle.std.proofs.Common.{◌≡◌, ◌++◌, ◌∷◌, take}
-use Rattle.embed_plan.specs.Plan.{address_text}
+use Rattle.embed_plan.proofs.Prelude.{◌++◌, ◌≡◌, take, ◌∷◌, address_text}
 use Rattle.embed_plan.proofs.lines.put_digits.Given as goal
 
 abbrev pub invariant-loop-digit : goal.invariant-loop-digit

@@ -1,12 +1,7 @@
-use Rattle.std.proofs.Common.{ℕ, List, length, ◌++◌, ◌∙◌, ap, sym, subst}
-use Rattle.std.specs.Prelude.{true, false, Err}
-use Rattle.tree_defs.specs.Topology.{Topology, complete}
-use Rattle.embed_defs.specs.Levels.{levels}
-use Rattle.embed_defs.specs.Embedding.{HasEmbedding}
+use Rattle.embed_plan.proofs.Prelude.{◌++◌, ◌∙◌, List, ap, sym, ℕ, length, false, subst, true, HasEmbedding, image_map, levels, complete, Topology, least_line, map_lines, no_room, placed, IsPlan}
+use Rattle.std.specs.Prelude.{Err}
 use Rattle.embed_defs.specs.Need.{IsNeed}
 use Rattle.embed_defs.specs.Canonical.{IsCanonical}
-use Rattle.embed_defs.specs.Images.{image_map}
-use Rattle.embed_plan.specs.Plan.{IsPlan, placed, no_room, map_lines, least_line}
 use Rattle.embed_plan.proofs.planning.plan.Goals as goal
 
 pub returns-in_ok-put_maps-in-Ok : goal.returns-in_ok-put_maps-in-Ok

@@ -1,9 +1,4 @@
-use Rattle.std.proofs.Common.{◌≡◌, ℕ, List, ◌++◌, map, take, refl, sym, ap, ◌∙◌, append_assoc, arith, take_all}
-use Rattle.std.specs.List.{concat}
-use Rattle.tree_defs.specs.Tree.{Address}
-use Rattle.policy_core.specs.Numbering.{address_at}
-use Rattle.embed_plan.specs.Preorder.{addresses}
-use Rattle.embed_plan.specs.Plan.{line_for, map_line}
+use Rattle.embed_plan.proofs.Prelude.{◌++◌, ◌∙◌, ◌≡◌, List, ap, sym, ℕ, take, refl, arith, map, append_assoc, take_all, concat, address_at, Address, line_for, map_line, addresses}
 use Rattle.embed_plan.proofs.PreorderAddresses.{one_more, count}
 use Rattle.embed_plan.proofs.PlanLines.{name-told, image-told}
 use Rattle.embed_plan.proofs.planning.put_maps.Goals as goal

@@ -1,7 +1,4 @@
-use Rattle.std.proofs.Common.{◌≡◌, ◌++◌, map, take}
-use Rattle.std.specs.List.{concat}
-use Rattle.embed_plan.specs.Preorder.{addresses}
-use Rattle.embed_plan.specs.Plan.{line_for}
+use Rattle.embed_plan.proofs.Prelude.{◌++◌, ◌≡◌, take, map, concat, line_for, addresses}
 use Rattle.embed_plan.proofs.planning.put_maps.Given as goal
 
 abbrev pub invariant-loop-node : goal.invariant-loop-node

@@ -1,5 +1,4 @@
-use Rattle.std.proofs.Common.{◌≡◌, get_or, sym, ◌∙◌, refl, rules}
-use Rattle.events_core.specs.declared.step.Step.TheVariants.{Arrive, Depart}
+use Rattle.events_core.proofs.Prelude.{sym, ◌∙◌, ◌≡◌, refl, get_or, rules, Arrive, Depart}
 use Rattle.events_core.proofs.UsualLaws.{word_some, counted_carries}
 use Rattle.events_core.proofs.line.usual_step.Goals as goal
 

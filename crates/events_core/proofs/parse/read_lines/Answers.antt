@@ -1,10 +1,6 @@
-use Rattle.std.proofs.Common.{◌≡◌, ◌+◌, ◌++◌, sym, ap, ◌∙◌, subst, arith, ◌⊎◌}
+use Rattle.events_core.proofs.Prelude.{sym, ◌∙◌, ◌≡◌, arith, subst, ◌++◌, ap, ◌+◌, ◌⊎◌, append-nil, IsFirstFault, IsScript, counts_of, NoMemory}
 use Rattle.std.specs.Option.{option_to_list}
-use Rattle.std.proofs.lemmas.List.{append-nil}
 use Rattle.std.proofs.lemmas.Result.{err_from_is_err_and}
-use Rattle.events_core.specs.declared.fault.ScriptFault.TheVariants.{NoMemory}
-use Rattle.events_core.specs.Steps.{counts_of}
-use Rattle.events_core.specs.Script.{IsScript, IsFirstFault}
 use Rattle.events_core.proofs.ScriptLaws.{none_read, few_lines, line_more, all_lines, fault_found}
 use Rattle.events_core.proofs.parse.read_lines.Goals as goal
 

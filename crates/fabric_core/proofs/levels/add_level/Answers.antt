@@ -1,7 +1,4 @@
-use Rattle.std.proofs.Common.{◌≡◌, ◌+◌, ◌∷◌, ◌++◌, [], ℕ, length, map, get_or, sym, subst, ap, ◌∙◌, arith, inl, inr, length-append}
-use Rattle.std.proofs.lemmas.Bool.{cases_lt}
-use Rattle.std.specs.List.{AllByRecursion}
-use Rattle.tree_defs.specs.Queue.{Queue}
+use Rattle.fabric_core.proofs.Prelude.{ℕ, arith, ◌≡◌, ◌+◌, [], length, sym, ap, get_or, ◌∙◌, subst, ◌∷◌, map, inl, inr, ◌++◌, length-append, cases_lt, AllByRecursion, Queue}
 use Rattle.fabric_core.proofs.LevelSteps.{all_map-added, kept-added, last-added}
 use Rattle.fabric_core.proofs.levels.add_level.Goals as goal
 

@@ -1,5 +1,4 @@
-use Rattle.std.proofs.Common.{◌≡◌, ◌≤◌, ◌<◌, ◌+◌, ℕ, true, [], length, map, get_or}
-use Rattle.std.specs.List.{AllByRecursion}
+use Rattle.fabric_core.proofs.Prelude.{ℕ, ◌≡◌, ◌+◌, [], length, get_or, ◌<◌, ◌≤◌, map, true, AllByRecursion}
 use Rattle.fabric_core.proofs.levels.add_level.Given as goal
 
 abbrev pub invariant-loop : goal.invariant-loop

@@ -1,5 +1,4 @@
-use Rattle.std.proofs.Common.{◌+◌, ◌*◌, arith, get_or, map}
-use Rattle.std.proofs.Math.Nat.{mul-le-mul_left}
+use Rattle.fabric_core.proofs.Prelude.{arith, ◌+◌, get_or, ◌*◌, map, mul-le-mul_left}
 use Rattle.embed_defs.proofs.LeafCounts.{narrow_at, counted_next, few_wide}
 use Rattle.fabric_core.proofs.NodeCounts.{next_count}
 use Rattle.fabric_core.proofs.LevelSteps.{flows_next, flows_last}

@@ -1,7 +1,5 @@
-use Rattle.std.proofs.Common.{◌≡◌, ◌≤◌, ◌+◌, ◌*◌, true, [], length, map, drop}
-use Rattle.std.specs.List.{AllByRecursion}
+use Rattle.fabric_core.proofs.Prelude.{◌≡◌, ◌+◌, [], length, ◌*◌, ◌≤◌, map, drop, true, AllByRecursion, nodes}
 use Rattle.embed_defs.specs.Target.{leaves}
-use Rattle.fabric_core.specs.Array.{nodes}
 use Rattle.fabric_core.proofs.LevelSteps.{HasFlowsSoFar}
 use Rattle.fabric_core.proofs.levels.empty_queues.Given as goal
 

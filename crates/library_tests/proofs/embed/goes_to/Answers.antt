@@ -1,8 +1,6 @@
-use Rattle.std.proofs.Common.{◌≡◌, length, sym, ap, ◌∙◌, arith}
+use Rattle.library_tests.proofs.Prelude.{arith, ◌≡◌, ◌∙◌, sym, ap, length, leads-alike, depth-alike, topology}
 use Rattle.std.proofs.lemmas.List.{with_items_is}
 use Rattle.tree_core.specs.Paths.{digits}
-use Rattle.tree_core.specs.Shape.{topology}
-use Rattle.embed_core.proofs.MapShapes.{leads-alike, depth-alike}
 use Rattle.library_tests.proofs.embed.goes_to.Goals as goal
 
 pub lift-requires-clause-leaf : goal.lift-requires-clause-leaf

@@ -1,5 +1,4 @@
-use Rattle.tree_core.specs.Shape.{topology}
-use Rattle.embed_core.proofs.MapShapes.{leads-alike}
+use Rattle.library_tests.proofs.Prelude.{leads-alike, topology}
 use Rattle.library_tests.proofs.embed.lifts_to.Goals as goal
 
 pub lift-requires-clause-leaf : goal.lift-requires-clause-leaf

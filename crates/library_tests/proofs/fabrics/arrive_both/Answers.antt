@@ -1,7 +1,4 @@
-use Rattle.std.proofs.Common.{◌∙◌, arith}
-use Rattle.sched_defs.specs.SourceState.{start, arrived}
-use Rattle.sched_defs.specs.Events.{CanArrive}
-use Rattle.sched_defs.proofs.Soundness.{sound_start, sound_arrived}
+use Rattle.library_tests.proofs.Prelude.{arith, ◌∙◌, sound_arrived, sound_start, CanArrive, arrived, start}
 use Rattle.library_tests.proofs.EventTurns.{asked, stands_arrived, one_push}
 use Rattle.library_tests.proofs.fabrics.arrive_both.Goals as goal
 

@@ -1,6 +1,4 @@
-use Rattle.std.proofs.Common.{◌≡◌, ◌≤◌, IsTrue}
-use Rattle.tree_defs.specs.Tree.{depth}
-use Rattle.sched_core.specs.Standing.{StandForOne}
+use Rattle.library_tests.proofs.Prelude.{◌≡◌, ◌≤◌, IsTrue, StandForOne, depth}
 use Rattle.library_tests.proofs.fabrics.depart_three.Given as goal
 
 abbrev pub invariant-loop-event : goal.invariant-loop-event

@@ -1,9 +1,5 @@
-use Rattle.std.proofs.Common.{◌≢◌, arith, sym}
+use Rattle.library_tests.proofs.Prelude.{arith, sym, ◌≢◌, Packet, IsAccepted, Policy, IsSendable}
 use Rattle.rank_defs.specs.declared.environment.FlowKey.{FlowKey}
-use Rattle.packet_defs.specs.declared.packet.Packet.{Packet}
-use Rattle.policy_defs.specs.Policy.{Policy}
-use Rattle.policy_defs.specs.Accepted.{IsAccepted}
-use Rattle.sched_defs.specs.Numbered.{IsSendable}
 use Rattle.library_tests.proofs.Exchanges.{both_come, stands_exchanged}
 use Rattle.library_tests.proofs.fabrics.exchange.Goals as goal
 

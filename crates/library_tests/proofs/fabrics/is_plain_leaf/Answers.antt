@@ -1,5 +1,4 @@
-use Rattle.std.proofs.Common.{ap, ◌∙◌, sym, arith}
-use Rattle.rank_defs.specs.Programs.{Program}
+use Rattle.library_tests.proofs.Prelude.{arith, ◌∙◌, sym, ap, Program}
 use Rattle.library_tests.proofs.Roots.{has_a_node, of_root}
 use Rattle.library_tests.proofs.Exchanges.{plain_leaf}
 use Rattle.library_tests.proofs.fabrics.is_plain_leaf.Goals as goal

@@ -1,11 +1,4 @@
-use Rattle.std.proofs.Common.{ℕ, refl, arith, ◌∙◌}
-use Rattle.packet_defs.specs.declared.packet.Packet.{Packet}
-use Rattle.policy_defs.specs.Policy.{Policy}
-use Rattle.policy_defs.specs.Accepted.{IsAccepted}
-use Rattle.sched_defs.specs.SourceState.{start}
-use Rattle.sched_defs.specs.Events.{CanArrive}
-use Rattle.sched_defs.specs.Numbered.{IsSendable}
-use Rattle.sched_defs.proofs.Soundness.{sound_start}
+use Rattle.library_tests.proofs.Prelude.{arith, ◌∙◌, refl, ℕ, Packet, IsAccepted, Policy, sound_start, CanArrive, IsSendable, start}
 use Rattle.library_tests.proofs.EventTurns.{asked}
 use Rattle.library_tests.proofs.Rounds.{can_come, stands_tried, one_push_at_most}
 use Rattle.library_tests.proofs.memory.arrive_round.Goals as goal

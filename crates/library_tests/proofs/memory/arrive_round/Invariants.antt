@@ -1,6 +1,4 @@
-use Rattle.std.proofs.Common.{◌≡◌, ◌≤◌}
-use Rattle.sched_defs.specs.Numbered.{IsHeldBelow}
-use Rattle.sched_core.specs.Standing.{StandForOne}
+use Rattle.library_tests.proofs.Prelude.{◌≡◌, ◌≤◌, StandForOne, IsHeldBelow}
 use Rattle.library_tests.proofs.memory.arrive_round.Given as goal
 
 abbrev pub invariant-loop-number : goal.invariant-loop-number

@@ -1,6 +1,4 @@
-use Rattle.std.proofs.Common.{◌≡◌, ◌≤◌}
-use Rattle.tree_defs.specs.Tree.{depth}
-use Rattle.sched_core.specs.Standing.{StandForOne}
+use Rattle.library_tests.proofs.Prelude.{◌≡◌, ◌≤◌, StandForOne, depth}
 use Rattle.library_tests.proofs.memory.depart_round.Given as goal
 
 abbrev pub invariant-loop-turn : goal.invariant-loop-turn

@@ -1,5 +1,4 @@
-use Rattle.std.proofs.Common.{IsTrue}
-use Rattle.outside_core.specs.Memory.{is_begun}
+use Rattle.library_tests.proofs.Prelude.{IsTrue, is_begun}
 use Rattle.library_tests.proofs.reading.read_on.Given as goal
 
 abbrev pub invariant-loop : goal.invariant-loop

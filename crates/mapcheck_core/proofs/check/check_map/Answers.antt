@@ -1,5 +1,4 @@
-use Rattle.std.proofs.Common.{◌≡◌, true, false}
-use Rattle.tree_core.specs.Shape.{topology}
+use Rattle.mapcheck_core.proofs.Prelude.{◌≡◌, false, true, topology}
 use Rattle.mapcheck_core.proofs.MapLaws.{breaks_none}
 use Rattle.mapcheck_core.proofs.Verdicts.{refused, accepted}
 use Rattle.mapcheck_core.proofs.check.check_map.Goals as goal

@@ -1,5 +1,4 @@
-use Rattle.std.proofs.Common.{None}
-use Rattle.mapcheck_core.specs.Checks.{IsFirstBroken}
+use Rattle.mapcheck_core.proofs.Prelude.{None, IsFirstBroken}
 use Rattle.mapcheck_core.proofs.check.first_broken.Given as goal
 
 abbrev pub invariant-loop-number : goal.invariant-loop-number

@@ -1,9 +1,4 @@
-use Rattle.std.proofs.Common.{subst}
-use Rattle.std.proofs.lemmas.Bool.{both_ways}
-use Rattle.tree_defs.specs.Tree.{nodes}
-use Rattle.tree_core.specs.Shape.{topology}
-use Rattle.mapcheck_core.specs.GivenMaps.{prefix}
-use Rattle.mapcheck_core.specs.Checks.{IsFirstPair}
+use Rattle.mapcheck_core.proofs.Prelude.{subst, both_ways, topology, nodes, IsFirstPair, prefix}
 use Rattle.mapcheck_core.proofs.MapLaws.{outside_broken, none_outside, leaf_broken, leaves_kept, root_kept, root_broken, pair_found, all_kept, embeds}
 use Rattle.mapcheck_core.proofs.check.first_fault.Goals as goal
 

@@ -1,6 +1,4 @@
-use Rattle.std.proofs.Common.{◌<◌, arith}
-use Rattle.tree_defs.specs.Tree.{nodes}
-use Rattle.tree_core.specs.Shape.{topology}
+use Rattle.mapcheck_core.proofs.Prelude.{arith, ◌<◌, topology, nodes}
 use Rattle.mapcheck_core.proofs.NumberLaws.{span_low}
 use Rattle.mapcheck_core.proofs.check.first_pair.Goals as goal
 

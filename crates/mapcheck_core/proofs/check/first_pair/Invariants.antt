@@ -1,8 +1,4 @@
-use Rattle.std.proofs.Common.{◌<◌, None, ℕ}
-use Rattle.tree_core.specs.Shape.{topology}
-use Rattle.tree_defs.specs.Tree.{nodes}
-use Rattle.mapcheck_core.specs.Numbers.{span_at}
-use Rattle.mapcheck_core.specs.Checks.{IsFirstBroken}
+use Rattle.mapcheck_core.proofs.Prelude.{ℕ, None, ◌<◌, topology, nodes, IsFirstBroken, span_at}
 use Rattle.mapcheck_core.proofs.check.first_pair.Given as goal
 
 abbrev pub invariant-loop-first : goal.invariant-loop-first

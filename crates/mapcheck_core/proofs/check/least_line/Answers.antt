@@ -1,6 +1,4 @@
-use Rattle.std.proofs.Common.{◌≡◌, ◌+◌, ◌∙◌, List, ℕ, Some, get_or, sym, ap, subst}
-use Rattle.tree_core.specs.Shape.{topology}
-use Rattle.mapcheck_core.specs.Checks.{breaks_at, lower_of, IsLeast}
+use Rattle.mapcheck_core.proofs.Prelude.{◌≡◌, sym, List, ℕ, subst, ◌∙◌, ap, ◌+◌, Some, get_or, topology, IsLeast, breaks_at, lower_of}
 use Rattle.mapcheck_core.proofs.LeastLines.{least_skip, least_take, tested}
 use Rattle.mapcheck_core.proofs.check.least_line.Goals as goal
 use Rattle.mapcheck_core.proofs.check.least_line.Goals.{then-is_broken, else-is_broken}

@@ -1,5 +1,4 @@
-use Rattle.tree_core.specs.Shape.{topology}
-use Rattle.mapcheck_core.specs.Checks.{breaks_at, IsLeast}
+use Rattle.mapcheck_core.proofs.Prelude.{topology, IsLeast, breaks_at}
 use Rattle.mapcheck_core.proofs.check.least_line.Given as goal
 
 abbrev pub invariant-loop-number : goal.invariant-loop-number

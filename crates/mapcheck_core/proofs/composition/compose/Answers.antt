@@ -1,12 +1,4 @@
-use Rattle.std.proofs.Common.{◌≡◌, List, map, sym, ap, ◌∙◌, subst}
-use Rattle.std.specs.List.{All}
-use Rattle.std.proofs.lemmas.Result.{IfOk-weaker}
-use Rattle.tree_defs.specs.Tree.{Address, IsAddressOf}
-use Rattle.tree_defs.specs.Topology.{complete}
-use Rattle.tree_core.specs.Shape.{topology}
-use Rattle.embed_defs.specs.Embedding.{IsEmbedding}
-use Rattle.embed_defs.specs.Images.{image_map}
-use Rattle.embed_defs.specs.Preorder.{image_in, HoldsImages}
+use Rattle.mapcheck_core.proofs.Prelude.{◌≡◌, sym, List, subst, ◌∙◌, ap, map, IfOk-weaker, All, IsEmbedding, image_map, HoldsImages, image_in, topology, complete, Address, IsAddressOf}
 use Rattle.mapcheck_core.proofs.ComposedImages.{all-placed, composed-embedding, composed-holds}
 use Rattle.mapcheck_core.proofs.composition.compose.Goals as goal
 

@@ -1,6 +1,4 @@
-use Rattle.std.proofs.Common.{◌≡◌, List, None, ℕ, sym, subst}
-use Rattle.tree_defs.specs.Tree.{IsAddressOf}
-use Rattle.embed_defs.specs.Images.{image_at}
+use Rattle.mapcheck_core.proofs.Prelude.{◌≡◌, sym, List, ℕ, subst, None, image_at, IsAddressOf}
 use Rattle.mapcheck_core.proofs.ComposedImages.{some-image}
 use Rattle.mapcheck_core.proofs.composition.placed_images.Goals as goal
 

@@ -1,5 +1,4 @@
-use Rattle.std.proofs.Common.{◌≡◌, map, take}
-use Rattle.embed_defs.specs.Images.{image_map}
+use Rattle.mapcheck_core.proofs.Prelude.{◌≡◌, map, take, image_map}
 use Rattle.mapcheck_core.proofs.composition.placed_images.Given as goal
 
 abbrev pub invariant-loop-image : goal.invariant-loop-image

@@ -1,9 +1,5 @@
-use Rattle.std.proofs.Common.{◌≡◌, ◌∙◌, true, Err, sym, ap, rules}
-use Rattle.std.specs.Prelude.{codes}
-use Rattle.std.specs.Str.{bytes_eq}
-use Rattle.std.proofs.lemmas.Result.{err_from_is_err_and}
+use Rattle.mapcheck_core.proofs.Prelude.{◌≡◌, sym, ◌∙◌, ap, true, Err, rules, err_from_is_err_and, codes, bytes_eq, glyphs_of}
 use Rattle.text_core.specs.declared.refusal.Refusal.TheVariants as refusal
-use Rattle.text_core.specs.Glyphs.{glyphs_of}
 use Rattle.mapcheck_core.proofs.LineForms.{named_line, nameless_line, imageless_line}
 use Rattle.mapcheck_core.proofs.entry.entry_named.Goals as goal
 

@@ -1,6 +1,4 @@
-use Rattle.std.proofs.Common.{◌≡◌, ◌++◌, option_map, length}
-use Rattle.text_core.specs.Glyphs.{glyphs_of}
-use Rattle.mapcheck_core.specs.MapLines.{joined}
+use Rattle.mapcheck_core.proofs.Prelude.{◌≡◌, length, ◌++◌, option_map, glyphs_of, joined}
 use Rattle.mapcheck_core.proofs.entry.joined.Given as goal
 
 abbrev pub invariant-loop-rest : goal.invariant-loop-rest

@@ -1,7 +1,4 @@
-use Rattle.std.proofs.Common.{sym, subst, List}
-use Rattle.text_core.specs.declared.item.Item.{Item}
-use Rattle.text_core.specs.Glyphs.{glyphs_of}
-use Rattle.text_core.specs.Says.{Says}
+use Rattle.mapcheck_core.proofs.Prelude.{sym, List, subst, glyphs_of, Says, Item}
 use Rattle.mapcheck_core.proofs.LineForms.{formless_line}
 use Rattle.mapcheck_core.proofs.entry.read_entry.Goals as goal
 

@@ -1,6 +1,4 @@
-use Rattle.std.proofs.Common.{◌≡◌, drop, map}
-use Rattle.mapcheck_core.specs.MapLines.{line_of_entry}
-use Rattle.mapcheck_core.specs.MapTexts.{has, named, line_for}
+use Rattle.mapcheck_core.proofs.Prelude.{◌≡◌, map, drop, line_of_entry, has, line_for, named}
 use Rattle.mapcheck_core.proofs.map_text.entry_for.Given as goal
 
 abbrev pub invariant-loop-entry : goal.invariant-loop-entry

@@ -1,7 +1,5 @@
-use Rattle.std.proofs.Common.{◌≡◌, arith}
+use Rattle.mapcheck_core.proofs.Prelude.{◌≡◌, arith, knows, has}
 use Rattle.std.proofs.lemmas.Grind.{common_steps}
-use Rattle.mapcheck_core.specs.Known.{knows}
-use Rattle.mapcheck_core.specs.MapTexts.{has}
 use Rattle.mapcheck_core.proofs.map_text.first_unknown.Goals as goal
 
 pub returns-then-not-contains : goal.returns-then-not-contains

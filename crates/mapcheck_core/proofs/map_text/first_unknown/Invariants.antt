@@ -1,7 +1,4 @@
-use Rattle.std.proofs.Common.{◌≡◌, List, ℕ, drop, map}
-use Rattle.mapcheck_core.specs.Known.{knows}
-use Rattle.mapcheck_core.specs.MapLines.{line_of_entry}
-use Rattle.mapcheck_core.specs.MapTexts.{has, unknown_line}
+use Rattle.mapcheck_core.proofs.Prelude.{◌≡◌, List, ℕ, map, drop, knows, line_of_entry, has, unknown_line}
 use Rattle.mapcheck_core.proofs.map_text.first_unknown.Given as goal
 
 abbrev pub invariant-loop-entry : goal.invariant-loop-entry

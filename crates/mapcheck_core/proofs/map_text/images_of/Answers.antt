@@ -1,6 +1,4 @@
-use Rattle.std.proofs.Common.{◌≡◌, ℕ, false, List, map, sym, ap, ◌∙◌, subst, rules}
-use Rattle.mapcheck_core.specs.MapLines.{MapLine, line_of_entry}
-use Rattle.mapcheck_core.specs.MapTexts.{has, named, line_for}
+use Rattle.mapcheck_core.proofs.Prelude.{◌≡◌, sym, List, ℕ, subst, ◌∙◌, ap, map, false, rules, line_of_entry, MapLine, has, line_for, named}
 use Rattle.mapcheck_core.proofs.NamePlaces.{name-given, mapped-more}
 use Rattle.mapcheck_core.proofs.map_text.images_of.Goals as goal
 

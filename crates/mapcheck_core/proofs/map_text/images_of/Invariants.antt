@@ -1,6 +1,4 @@
-use Rattle.std.proofs.Common.{◌≡◌, take, map}
-use Rattle.mapcheck_core.specs.MapLines.{line_of_entry}
-use Rattle.mapcheck_core.specs.MapTexts.{line_for}
+use Rattle.mapcheck_core.proofs.Prelude.{◌≡◌, map, take, line_of_entry, line_for}
 use Rattle.mapcheck_core.proofs.map_text.images_of.Given as goal
 
 abbrev pub invariant-loop-name : goal.invariant-loop-name

@@ -1,8 +1,6 @@
-use Rattle.std.proofs.Common.{◌≡◌, ◌∙◌, ℕ, List, Bool, true, cond, ap}
-use Rattle.std.specs.Str.{bytes_eq}
+use Rattle.mapcheck_core.proofs.Prelude.{◌≡◌, List, ℕ, ◌∙◌, ap, true, Bool, cond, bytes_eq, knows}
 use Rattle.std.proofs.lemmas.Map.Text.{is_eq-slice_cmp}
 use denote.Ref.{Bor}
-use Rattle.mapcheck_core.specs.Known.{knows}
 use Rattle.mapcheck_core.proofs.NamePlaces.{has-more}
 use Rattle.mapcheck_core.proofs.map_text.ordered.Goals as goal
 

@@ -1,6 +1,4 @@
-use Rattle.std.proofs.Common.{◌≡◌, ℕ, List, take}
-use Rattle.mapcheck_core.specs.Known.{knows}
-use Rattle.mapcheck_core.specs.MapTexts.{has}
+use Rattle.mapcheck_core.proofs.Prelude.{◌≡◌, List, ℕ, take, knows, has}
 use Rattle.mapcheck_core.proofs.map_text.ordered.Given as goal
 
 abbrev pub invariant-loop-name : goal.invariant-loop-name

@@ -1,15 +1,5 @@
-use Rattle.std.proofs.Common.{◌≡◌, ◌+◌, ◌++◌, ◌∷◌, ◌⊎◌, ℕ, List, [], sym, refl, ap, ◌∙◌, subst, false, map, take, get_or, option_map, Option}
-use Rattle.std.specs.Option.{option_to_list}
-use Rattle.std.proofs.lemmas.List.{append-nil, map-append}
-use Rattle.std.proofs.lemmas.Result.{err_from_is_err_and}
-use Rattle.text_core.specs.declared.line.Line.{Line}
-use Rattle.text_core.specs.Lines.{line_text, statements_of}
-use Rattle.mapcheck_core.specs.declared.entry.Entry.{Entry}
-use Rattle.mapcheck_core.specs.declared.fault.MapFault.{MapFault}
+use Rattle.mapcheck_core.proofs.Prelude.{◌≡◌, sym, List, ℕ, subst, ◌∙◌, ap, [], refl, map, ◌∷◌, ◌+◌, false, ◌++◌, Option, take, get_or, ◌⊎◌, option_map, append-nil, map-append, err_from_is_err_and, option_to_list, statements_of, line_text, Line, line_of_entry, MapGives, IsInNoForm, Give, IsFirstAtFault, over, Entry, MapFault}
 use Rattle.mapcheck_core.specs.declared.fault.MapFault.TheVariants as fault
-use Rattle.mapcheck_core.specs.NumberedLines.{Give, over, IsFirstAtFault}
-use Rattle.mapcheck_core.specs.MapLines.{MapGives, line_of_entry}
-use Rattle.mapcheck_core.specs.MapTexts.{IsInNoForm}
 use Rattle.mapcheck_core.proofs.LineLaws.{lines_more}
 use Rattle.mapcheck_core.proofs.EntryLines.{told_fault}
 use Rattle.mapcheck_core.proofs.map_text.read_entries.Goals as goal

@@ -1,7 +1,4 @@
-use Rattle.std.proofs.Common.{◌≡◌, map, take}
-use Rattle.text_core.specs.Lines.{line_text}
-use Rattle.mapcheck_core.specs.NumberedLines.{Give}
-use Rattle.mapcheck_core.specs.MapLines.{MapGives, line_of_entry}
+use Rattle.mapcheck_core.proofs.Prelude.{◌≡◌, map, take, line_text, line_of_entry, MapGives, Give}
 use Rattle.mapcheck_core.proofs.map_text.read_entries.Given as goal
 
 abbrev pub invariant-loop-line : goal.invariant-loop-line

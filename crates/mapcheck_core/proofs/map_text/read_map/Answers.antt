@@ -1,10 +1,6 @@
-use Rattle.std.proofs.Common.{◌≡◌, ◌⊎◌, ℕ, Err, List, map, inr, sym, subst}
-use Rattle.std.proofs.lemmas.Result.{err_from_is_err_and}
-use Rattle.mapcheck_core.specs.declared.entry.Entry.{Entry}
-use Rattle.mapcheck_core.specs.declared.fault.MapFault.{MapFault}
+use Rattle.mapcheck_core.proofs.Prelude.{◌≡◌, sym, List, ℕ, subst, map, inr, ◌⊎◌, Err, err_from_is_err_and, line_of_entry, AreMapLines, answer_of, Entry, MapFault}
 use Rattle.mapcheck_core.specs.declared.fault.MapFault.TheVariants.{NoMemory}
-use Rattle.mapcheck_core.specs.MapLines.{line_of_entry}
-use Rattle.mapcheck_core.specs.MapTexts.{too_long, AreMapLines, answer_of}
+use Rattle.mapcheck_core.specs.MapTexts.{too_long}
 use Rattle.mapcheck_core.proofs.MapAnswers.{IsRight, lines_answer, line_answer, only_answer}
 use Rattle.mapcheck_core.proofs.map_text.read_map.Goals as goal
 

@@ -1,6 +1,4 @@
-use Rattle.std.proofs.Common.{◌≡◌, [], take, drop, map}
-use Rattle.mapcheck_core.specs.MapLines.{line_of_entry}
-use Rattle.mapcheck_core.specs.MapTexts.{named, repeated_line}
+use Rattle.mapcheck_core.proofs.Prelude.{◌≡◌, [], map, take, drop, line_of_entry, named, repeated_line}
 use Rattle.mapcheck_core.proofs.map_text.repeated_line.Given as goal
 
 abbrev pub invariant-loop-place : goal.invariant-loop-place

@@ -1,6 +1,4 @@
-use Rattle.std.proofs.Common.{◌≡◌, ◌≤◌, drop}
-use Rattle.text_core.specs.Glyphs.{glyphs_of}
-use Rattle.mapcheck_core.specs.TreeReading.{walk, no_node}
+use Rattle.mapcheck_core.proofs.Prelude.{◌≡◌, ◌≤◌, drop, glyphs_of, walk, no_node}
 use Rattle.mapcheck_core.proofs.nest.measured.Given as goal
 
 abbrev pub invariant-loop-item : goal.invariant-loop-item

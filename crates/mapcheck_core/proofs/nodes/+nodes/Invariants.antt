@@ -1,6 +1,4 @@
-use Rattle.std.proofs.Common.{◌≡◌, ◌+◌, drop, map}
-use Rattle.tree_defs.specs.Tree.{trees_of, nodes, nodes_below}
-use Rattle.tree_core.specs.Shape.{topology}
+use Rattle.mapcheck_core.proofs.Prelude.{◌≡◌, map, ◌+◌, drop, topology, nodes, trees_of, nodes_below}
 use Rattle.mapcheck_core.proofs.nodes.+nodes.Given as goal
 
 abbrev pub invariant-loop-child : goal.invariant-loop-child

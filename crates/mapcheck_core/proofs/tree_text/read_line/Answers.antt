@@ -1,14 +1,5 @@
-use Rattle.std.proofs.Common.{◌≡◌, true, Err, None, Some, inl, inr, List, [], sym, ap, ◌∙◌, subst, rules}
-use Rattle.std.proofs.lemmas.Bool.{both_ways}
-use Rattle.std.proofs.lemmas.Result.{err_from_is_err_and}
-use Rattle.text_core.specs.declared.item.Item.{Item}
+use Rattle.mapcheck_core.proofs.Prelude.{◌≡◌, sym, List, subst, ◌∙◌, ap, [], None, inr, Some, true, inl, Err, rules, both_ways, err_from_is_err_and, glyphs_of, is_clean_text, Says, Item, topology, read_on, measured, nothing, IsLarge}
 use Rattle.text_core.specs.declared.refusal.Refusal.TheVariants as refusal
-use Rattle.text_core.specs.Glyphs.{glyphs_of}
-use Rattle.text_core.specs.Lines.{is_clean_text}
-use Rattle.text_core.specs.Says.{Says}
-use Rattle.tree_core.specs.Shape.{topology}
-use Rattle.mapcheck_core.specs.TreeTexts.{nothing, IsLarge}
-use Rattle.mapcheck_core.specs.TreeReading.{measured, read_on}
 use Rattle.mapcheck_core.proofs.LineTrees.{sized, unsized, tree_line, no_tree_line, silent_line, large_from, small_from, no_items}
 use Rattle.mapcheck_core.proofs.tree_text.read_line.Goals as goal
 use Rattle.mapcheck_core.proofs.tree_text.read_line.Goals.{then-size-gt-MOST_NODES-via-then-size-gt-MOST_NODES, then-size-gt-MOST_NODES-via-else-size-gt-MOST_NODES+then-size-gt-MOST_LEVELS}

@@ -1,13 +1,6 @@
-use Rattle.std.proofs.Common.{◌≡◌, ◌⊎◌, ◌+◌, inr, sym, refl, ap, ◌∙◌, subst, false, map, take, arith}
-use Rattle.std.proofs.lemmas.Result.{err_from_is_err_and}
-use Rattle.text_core.specs.declared.line.Line.{Line}
-use Rattle.text_core.specs.Lines.{line_text, statements_of}
-use Rattle.mapcheck_core.specs.declared.tree_text.Found.{Found}
+use Rattle.mapcheck_core.proofs.Prelude.{◌≡◌, sym, subst, ◌∙◌, ap, refl, map, arith, inr, ◌+◌, false, take, ◌⊎◌, err_from_is_err_and, statements_of, line_text, Line, over, IsTreeFault, AreRead, TreeFault, Found}
 use Rattle.mapcheck_core.specs.declared.tree_text.Found.TheVariants as found
-use Rattle.mapcheck_core.specs.declared.tree_fault.TreeFault.{TreeFault}
 use Rattle.mapcheck_core.specs.declared.tree_fault.TreeFault.TheVariants as fault
-use Rattle.mapcheck_core.specs.NumberedLines.{over}
-use Rattle.mapcheck_core.specs.TreeTexts.{IsTreeFault, AreRead}
 use Rattle.mapcheck_core.proofs.TreeSteps.{told_fault, told_second, told_more, more_tree, is_tree, is_none}
 use Rattle.mapcheck_core.proofs.tree_text.read_lines.Goals as goal
 use Rattle.mapcheck_core.proofs.tree_text.read_lines.Goals.{then-is_tree+else-place-gt0, else-is_tree+in-Tree+in-Inner-1, else-is_tree+in-Tree+in-Leaf-1, else-is_tree+in-Nothing-1}

@@ -1,6 +1,4 @@
-use Rattle.std.proofs.Common.{◌≡◌, map, take}
-use Rattle.text_core.specs.Lines.{line_text}
-use Rattle.mapcheck_core.specs.TreeTexts.{AreRead}
+use Rattle.mapcheck_core.proofs.Prelude.{◌≡◌, map, take, line_text, AreRead}
 use Rattle.mapcheck_core.proofs.tree_text.read_lines.Given as goal
 
 abbrev pub invariant-loop-line : goal.invariant-loop-line

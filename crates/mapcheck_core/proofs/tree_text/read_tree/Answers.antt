@@ -1,11 +1,6 @@
-use Rattle.std.proofs.Common.{◌≡◌, ◌⊎◌, Ok, Err, Result, inr, sym, subst}
-use Rattle.std.proofs.lemmas.Result.{err_from_is_err_and}
-use Rattle.tree_core.specs.declared.topo.Topo.{Topo}
-use Rattle.tree_core.specs.Shape.{topology}
-use Rattle.mapcheck_core.specs.declared.tree_text.Found.{Found}
-use Rattle.mapcheck_core.specs.declared.tree_fault.TreeFault.{TreeFault}
+use Rattle.mapcheck_core.proofs.Prelude.{◌≡◌, sym, subst, inr, ◌⊎◌, Err, Result, Ok, err_from_is_err_and, topology, Topo, IsTreeFault, AreReadLines, TreeFault, Found}
 use Rattle.mapcheck_core.specs.declared.tree_fault.TreeFault.TheVariants as fault
-use Rattle.mapcheck_core.specs.TreeTexts.{too_long, AreReadLines, IsTreeFault}
+use Rattle.mapcheck_core.specs.TreeTexts.{too_long}
 use Rattle.mapcheck_core.proofs.TreeSteps.{no_tree, large_tree, tree_text, text_within}
 use Rattle.mapcheck_core.proofs.TreeAnswers.{accepted, refused}
 use Rattle.mapcheck_core.proofs.tree_text.read_tree.Goals as goal

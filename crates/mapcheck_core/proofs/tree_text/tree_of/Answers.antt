@@ -1,12 +1,5 @@
-use Rattle.std.proofs.Common.{◌++◌, ◌∷◌, List, [], Option, Vec, Global, map, sym, ap, ◌∙◌}
-use Rattle.std.specs.Option.{option_to_list}
-use Rattle.std.proofs.lemmas.Bool.{both_ways}
-use Rattle.std.proofs.lemmas.List.{map-append}
-use Rattle.text_core.specs.declared.item.Item.{Item}
+use Rattle.mapcheck_core.proofs.Prelude.{sym, List, ◌∙◌, ap, [], map, ◌∷◌, ◌++◌, Option, Global, Vec, both_ways, map-append, option_to_list, Item, topology, Topo, Topology}
 use Rattle.text_core.specs.declared.item.Item.TheVariants as item
-use Rattle.tree_defs.specs.Topology.{Topology}
-use Rattle.tree_core.specs.declared.topo.Topo.{Topo}
-use Rattle.tree_core.specs.Shape.{topology}
 use Rattle.mapcheck_core.proofs.StackLaws.{after_open, after_close, after_leaf}
 use Rattle.mapcheck_core.proofs.tree_text.tree_of.Goals as goal
 use Rattle.mapcheck_core.proofs.tree_text.tree_of.Goals.{then-opens+in_ok-push, else-opens+then-closes+in-Some+in_ok-push-2, else-opens+else-closes+in_ok-push-3}

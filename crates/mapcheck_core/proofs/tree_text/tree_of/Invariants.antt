@@ -1,7 +1,4 @@
-use Rattle.std.proofs.Common.{◌≡◌, [], drop, map}
-use Rattle.text_core.specs.Glyphs.{glyphs_of}
-use Rattle.tree_core.specs.Shape.{topology}
-use Rattle.mapcheck_core.specs.TreeReading.{read_on}
+use Rattle.mapcheck_core.proofs.Prelude.{◌≡◌, [], map, drop, glyphs_of, topology, read_on}
 use Rattle.mapcheck_core.proofs.StackLaws.{turned}
 use Rattle.mapcheck_core.proofs.tree_text.tree_of.Given as goal
 

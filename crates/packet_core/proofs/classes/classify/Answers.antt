@@ -1,8 +1,4 @@
-use Rattle.std.proofs.Common.{◌∙◌, ap, sym, subst, List}
-use Rattle.policy_text_defs.specs.declared.condition.Condition.{Condition}
-use Rattle.packet_defs.specs.Condition.{class_of}
-use Rattle.policy_core.specs.Parts.{HasCatchAll}
-use Rattle.packet_core.specs.Conditions.{conditions_of}
+use Rattle.packet_core.proofs.Prelude.{◌∙◌, sym, ap, subst, List, class_of, HasCatchAll, Condition, conditions_of}
 use Rattle.packet_core.proofs.FirstClass.{class_of-classes, some-class}
 use Rattle.packet_core.proofs.classes.classify.Goals as goal
 

@@ -1,5 +1,4 @@
-use Rattle.std.proofs.Common.{arith}
-use Rattle.packet_defs.specs.Condition.{agree, has_version}
+use Rattle.packet_core.proofs.Prelude.{arith, agree, has_version}
 use Rattle.packet_core.proofs.WithinBounds.{address-holds}
 use Rattle.packet_core.proofs.prepared.bound_of.Goals as goal
 

@@ -1,8 +1,4 @@
-use Rattle.std.proofs.Common.{map, ap, ◌∙◌}
-use Rattle.std.proofs.lemmas.List.{take_all}
-use Rattle.packet_defs.specs.Condition.{meets}
-use Rattle.packet_core.specs.Conditions.{condition_of}
-use Rattle.packet_core.specs.Numbers.{holds, numbers_of}
+use Rattle.packet_core.proofs.Prelude.{◌∙◌, ap, map, take_all, meets, condition_of, numbers_of, holds}
 use Rattle.packet_core.proofs.WithinBounds.{one_more, same-all}
 use Rattle.packet_core.proofs.prepared.bounds_of.Goals as goal
 

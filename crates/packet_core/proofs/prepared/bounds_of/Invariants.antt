@@ -1,8 +1,4 @@
-use Rattle.std.proofs.Common.{◌≡◌, ℕ, map, take}
-use Rattle.packet_defs.specs.declared.fields.Fields.{Fields}
-use Rattle.packet_defs.specs.Condition.{meets}
-use Rattle.packet_core.specs.Conditions.{condition_of}
-use Rattle.packet_core.specs.Numbers.{holds, numbers_of}
+use Rattle.packet_core.proofs.Prelude.{map, ℕ, ◌≡◌, take, meets, Fields, condition_of, numbers_of, holds}
 use Rattle.packet_core.proofs.prepared.bounds_of.Given as goal
 
 abbrev pub invariant-loop-condition : goal.invariant-loop-condition

@@ -1,10 +1,5 @@
-use Rattle.std.proofs.Common.{sym, ap, ◌∙◌, arith, length}
+use Rattle.packet_core.proofs.Prelude.{◌∙◌, sym, ap, arith, length, nil_from_length, take_rest, list_all, meets, condition_of, numbers_of, holds}
 use Rattle.std.proofs.lemmas.Bool.{eqb-true, eqb-false}
-use Rattle.std.proofs.lemmas.List.{nil_from_length, take_rest}
-use Rattle.std.specs.List.{list_all}
-use Rattle.packet_defs.specs.Condition.{meets}
-use Rattle.packet_core.specs.Conditions.{condition_of}
-use Rattle.packet_core.specs.Numbers.{holds, numbers_of}
 use Rattle.packet_core.proofs.WithinBounds.{met-none, met-some}
 use Rattle.packet_core.proofs.prepared.prepare.Goals as goal
 

@@ -1,5 +1,4 @@
-use Rattle.std.proofs.Common.{arith}
-use Rattle.packet_core.specs.Conditions.{field_of}
+use Rattle.packet_core.proofs.Prelude.{arith, field_of}
 use Rattle.packet_core.proofs.WithinBounds.{field-holds}
 use Rattle.packet_core.proofs.prepared.within.Goals as goal
 

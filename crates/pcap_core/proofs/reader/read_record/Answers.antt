@@ -1,5 +1,4 @@
-use Rattle.std.proofs.Common.{arith}
-use Rattle.pcap_core.specs.Held.{bytes_taken}
+use Rattle.pcap_core.proofs.Prelude.{arith, bytes_taken}
 use Rattle.pcap_core.proofs.Records.{short-taken, data-broken, frame-taken}
 use Rattle.pcap_core.proofs.reader.read_record.Goals as goal
 

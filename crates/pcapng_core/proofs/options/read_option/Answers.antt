@@ -1,14 +1,6 @@
-use Rattle.std.proofs.Common.{◌≡◌, ◌+◌, ◌-◌, List, ℕ, length, get_or, ◌<◌, arith, subst, sym, ap, ◌∙◌}
-use Rattle.std.proofs.lemmas.Bool.{ltb-true}
-use Rattle.std.proofs.lemmas.List.{get_or_read}
-use Rattle.pcap_core.specs.Rest.{rest_of}
-use Rattle.pcap_core.specs.Held.{held}
-use Rattle.pcapng_core.specs.Options.{FrontOf, StandsAt}
+use Rattle.pcapng_core.proofs.Prelude.{◌≡◌, ℕ, List, sym, ◌∙◌, ap, arith, length, ◌+◌, subst, ◌<◌, ◌-◌, get_or, ltb-true, get_or_read, taken-first, passes-taken, taken-more, passes-more, held, rest_of, FrontOf, StandsAt, Gives}
 use Rattle.pcapng_core.specs.declared.options.Front.TheVariants as front
-use Rattle.pcapng_core.specs.declared.options.Step.TheVariants.{Gives}
 use Rattle.pcapng_core.proofs.OptionReads.{passes-as, stands-ends, stands-gives, stands-passes}
-use Rattle.pcap_core.proofs.Takes.{taken-first, taken-more, passes-taken}
-use Rattle.pcap_core.proofs.Windows.{passes-more}
 use Rattle.pcapng_core.proofs.options.read_option.Goals as goal
 
 pub returns-in-Ends-clause-step : goal.returns-in-Ends-clause-step

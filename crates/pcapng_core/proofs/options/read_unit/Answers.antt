@@ -1,10 +1,6 @@
-use Rattle.std.proofs.Common.{◌-◌, ◌+◌, arith}
-use Rattle.std.proofs.lemmas.Grind.{common_steps}
-use Rattle.pcap_core.specs.Rest.{rest_of}
-use Rattle.pcap_core.specs.Held.{held}
+use Rattle.pcapng_core.proofs.Prelude.{arith, ◌+◌, ◌-◌, common_steps, passes-more, held, rest_of}
 use Rattle.pcapng_core.proofs.OptionReads.{passes-as}
 use Rattle.pcapng_core.proofs.OptionSteps.{same-more, unit-ends, unit-gives, unit-few}
-use Rattle.pcap_core.proofs.Windows.{passes-more}
 use Rattle.pcapng_core.proofs.options.read_unit.Goals as goal
 
 pub returns-in-Ends-clause-unit : goal.returns-in-Ends-clause-unit

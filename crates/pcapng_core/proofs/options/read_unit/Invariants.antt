@@ -1,8 +1,4 @@
-use Rattle.std.proofs.Common.{◌≤◌, ◌-◌}
-use Rattle.pcap_core.specs.Rest.{rest_of, Serves}
-use Rattle.pcap_core.specs.Held.{held}
-use Rattle.pcap_core.specs.Passed.{Passes}
-use Rattle.pcapng_core.specs.Options.{SameUnit}
+use Rattle.pcapng_core.proofs.Prelude.{◌≤◌, ◌-◌, held, Passes, rest_of, Serves, SameUnit}
 use Rattle.pcapng_core.proofs.options.read_unit.Given as goal
 
 abbrev pub invariant-loop-rest : goal.invariant-loop-rest

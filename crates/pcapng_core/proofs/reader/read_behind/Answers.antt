@@ -1,16 +1,7 @@
-use Rattle.std.proofs.Common.{◌≡◌, ◌<◌, ◌+◌, ◌-◌, ◌++◌, length, List, ℕ, Option, arith, subst, sym, ap, ◌∙◌}
-use Rattle.std.specs.Prelude.{IfSome}
-use Rattle.pcap_defs.specs.Number.{long_at}
-use Rattle.pcap_core.specs.Rest.{rest_of}
-use Rattle.pcapng_defs.specs.declared.interface.Unit.{Unit}
-use Rattle.pcap_core.specs.Held.{held}
-use Rattle.pcapng_core.specs.Options.{IsUnitOf}
-use Rattle.pcap_core.specs.Passed.{Passes}
+use Rattle.pcapng_core.proofs.Prelude.{◌≡◌, ℕ, List, sym, ◌∙◌, ap, arith, length, ◌+◌, Option, subst, ◌<◌, ◌-◌, IfSome, ◌++◌, taken-first, passes-taken, passes-kept, passes-more, held, Passes, rest_of, long_at, Unit, IsUnitOf}
 use Rattle.pcapng_core.specs.declared.start.Kind.TheVariants as kind
 use Rattle.pcapng_core.proofs.Behind.{behind-read, behind-differs}
 use Rattle.pcapng_core.proofs.OptionReads.{passes-as}
-use Rattle.pcap_core.proofs.Takes.{taken-first, passes-taken, passes-kept}
-use Rattle.pcap_core.proofs.Windows.{passes-more}
 use Rattle.pcapng_core.proofs.reader.read_behind.Goals as goal
 
 pub returns-then-read_long-start-2-clause-fault : goal.returns-then-read_long-start-2-clause-fault

@@ -1,13 +1,6 @@
-use Rattle.std.proofs.Common.{◌≡◌, List, ℕ, subst, IfSome}
-use Rattle.pcapng_defs.specs.NgCapture.{front_of, broken}
-use Rattle.pcapng_core.specs.Faults.{fault_in}
-use Rattle.pcap_core.specs.Rest.{rest_of}
-use Rattle.pcap_core.specs.Held.{held}
-use Rattle.pcapng_core.specs.Carries.{carried_of}
-use Rattle.pcapng_core.specs.Blocks.{IsStart}
+use Rattle.pcapng_core.proofs.Prelude.{◌≡◌, ℕ, List, subst, IfSome, taken-first, short-first, held, rest_of, broken, front_of, IsStart, carried_of, fault_in}
 use Rattle.pcapng_core.proofs.Starts.{start-taken, starts-broken}
 use Rattle.pcapng_core.proofs.Refusals.{err-passed}
-use Rattle.pcap_core.proofs.Takes.{taken-first, short-first}
 use Rattle.pcapng_core.proofs.reader.read_start.Goals as goal
 
 pub returns-in_err-start_in-clause-fault : goal.returns-in_err-start_in-clause-fault

@@ -1,7 +1,4 @@
-use Rattle.std.proofs.Common.{◌≡◌, ◌≤◌, ◌<◌, ◌-◌, arith, rules, refl, map, length, deque_len, true, false}
-use Rattle.std.specs.List.{AllByRecursion}
-use Rattle.pifo_core.specs.Held.{wide}
-use Rattle.pifo_core.specs.Heaped.{MayFollow}
+use Rattle.pifo_core.proofs.Prelude.{arith, ◌≡◌, false, length, ◌<◌, ◌≤◌, refl, true, map, rules, deque_len, ◌-◌, AllByRecursion, MayFollow, wide}
 use Rattle.pifo_core.proofs.HeapLaws.{rank_below_at, ranks_below_last, ranks_below_none}
 use Rattle.pifo_core.proofs.heap.brief_behind.Goals as goal
 use Rattle.pifo_core.proofs.heap.brief_behind.Goals.{in_default-via-in-Some+else-held-last, in_default-via-in_default}

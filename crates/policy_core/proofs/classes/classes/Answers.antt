@@ -1,9 +1,6 @@
-use Rattle.std.proofs.Common.{◌∙◌, ap, List, slice_index, arith}
-use Rattle.policy_text_defs.specs.Sense.{sense_of}
-use Rattle.policy_rules.specs.Resolved.{class_in, marks_of}
-use Rattle.policy_rules.proofs.Lines.{given-within}
+use Rattle.policy_core.proofs.Prelude.{List, ap, ◌∙◌, arith, slice_index, given-within, marks_of, sense_of, Condition}
+use Rattle.policy_rules.specs.Resolved.{class_in}
 use Rattle.policy_core.proofs.ClassLemmas.{class-more, class-same, no-class}
-use Rattle.policy_text_defs.specs.declared.condition.Condition.{Condition}
 use Rattle.policy_core.proofs.classes.classes.Goals.{in-Class+in_ok-class+in_ok-push, in_default}
 use Rattle.policy_core.proofs.classes.classes.Goals as goal
 

@@ -1,11 +1,5 @@
-use Rattle.std.proofs.Common.{◌≡◌, sym, ap, subst, ℕ, length, List, arith}
+use Rattle.policy_core.proofs.Prelude.{List, ◌≡◌, ℕ, ap, sym, subst, arith, length, AreAcyclic, IsLeastLine, entries_of, IsCyclic, IsTooDeep, Entry, lists, IsBelow, IsDeep, IsLeast, AreParents}
 use Rattle.std.proofs.lemmas.Option.{MatchOption-at_some, MatchOption-at_none}
-use Rattle.policy_text_defs.specs.Sense.{Entry}
-use Rattle.policy_rules.specs.Entries.{entries_of}
-use Rattle.policy_rules.specs.Clauses.{IsLeastLine}
-use Rattle.policy_rules.specs.Families.{IsCyclic, IsTooDeep}
-use Rattle.policy_rules.specs.Accepted.{AreAcyclic}
-use Rattle.tree_graph.specs.Descent.{lists, AreParents, IsLeast, IsBelow, IsDeep}
 use Rattle.policy_core.proofs.FamilyNames.{few-names}
 use Rattle.policy_core.proofs.FamilyFaults.{rooted-named, root_at, root-is, graph-range, graph-nodes, graph-small, parents-all, cycle-line, no-cycle, graph-forest, deep-line, no-deep}
 use Rattle.policy_core.proofs.faults.check_family.Goals as goal

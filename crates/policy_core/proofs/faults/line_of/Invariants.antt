@@ -1,6 +1,4 @@
-use Rattle.std.proofs.Common.{drop}
-use Rattle.policy_rules.specs.Entries.{entries_of}
-use Rattle.policy_core.specs.Lines.{line_at}
+use Rattle.policy_core.proofs.Prelude.{drop, entries_of, line_at}
 use Rattle.policy_core.proofs.Lines.{StandsAt}
 use Rattle.policy_core.proofs.faults.line_of.Given as goal
 

@@ -1,6 +1,4 @@
-use Rattle.std.proofs.Common.{arith}
-use Rattle.tree_graph.specs.Descent.{lists}
-use Rattle.policy_rules.specs.Entries.{entries_of}
+use Rattle.policy_core.proofs.Prelude.{arith, entries_of, lists}
 use Rattle.policy_core.proofs.Kinship.{graph-more, graph-size}
 use Rattle.policy_core.proofs.FamilyNames.{named, few-names, known-at}
 use Rattle.policy_core.proofs.graphs.graph.Goals as goal

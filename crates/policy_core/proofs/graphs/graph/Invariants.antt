@@ -1,6 +1,4 @@
-use Rattle.std.proofs.Common.{◌≡◌, take}
-use Rattle.tree_graph.specs.Descent.{lists}
-use Rattle.policy_rules.specs.Entries.{entries_of}
+use Rattle.policy_core.proofs.Prelude.{◌≡◌, take, entries_of, lists}
 use Rattle.policy_core.proofs.Kinship.{by_numbers}
 use Rattle.policy_core.proofs.graphs.graph.Given as goal
 

@@ -1,5 +1,4 @@
-use Rattle.std.proofs.Common.{◌≡◌, true, subst, sym, List, ℕ}
-use Rattle.policy_rules.specs.Names.{has}
+use Rattle.policy_core.proofs.Prelude.{List, ◌≡◌, ℕ, sym, subst, true, has}
 use Rattle.policy_core.proofs.NumberedPlaces.{all-at}
 use Rattle.policy_core.proofs.graphs.numbers.Goals as goal
 

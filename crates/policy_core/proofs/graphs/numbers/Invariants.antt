@@ -1,5 +1,4 @@
-use Rattle.std.proofs.Common.{◌≡◌, take, map}
-use Rattle.policy_rules.specs.Programs.{place}
+use Rattle.policy_core.proofs.Prelude.{◌≡◌, map, take, place}
 use Rattle.policy_core.proofs.graphs.numbers.Given as goal
 
 abbrev pub invariant-loop-name : goal.invariant-loop-name

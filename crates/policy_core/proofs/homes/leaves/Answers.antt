@@ -1,9 +1,5 @@
-use Rattle.std.proofs.Common.{◌≡◌, ℕ, ◌+◌, ◌<◌, List, length, ◌∙◌, ap, sym, subst, arith, Vec, Global}
-use Rattle.std.proofs.lemmas.List.{get_or_default}
-use Rattle.policy_text_defs.specs.Sense.{sense_of}
-use Rattle.policy_rules.specs.Names.{Name, node_name}
-use Rattle.tree_graph.proofs.MarkLemmas.{given_back}
-use Rattle.policy_core.specs.Homes.{ArePut}
+use Rattle.policy_core.proofs.Prelude.{List, ◌≡◌, ℕ, ap, sym, subst, ◌∙◌, arith, length, ◌<◌, ◌+◌, Vec, get_or_default, Name, node_name, sense_of, given_back, ArePut}
+use Rattle.std.proofs.Common.{Global}
 use Rattle.policy_core.proofs.HomePasses.{IsPassing, node-within, pass-leaf, pass-node, pass-other, neither}
 use Rattle.policy_core.proofs.HomeLaws.{homes-all}
 use Rattle.policy_core.proofs.homes.leaves.Goals.{in-Leaf, in-Node, in_default}

@@ -1,6 +1,4 @@
-use Rattle.std.proofs.Common.{◌≡◌, ◌∙◌, ℕ, ◌+◌, List, position, subst, sym, ap, take}
-use Rattle.std.specs.Str.{bytes_eq}
-use Rattle.policy_core.specs.Homes.{ArePut}
+use Rattle.policy_core.proofs.Prelude.{List, ◌≡◌, ℕ, ap, sym, subst, ◌∙◌, ◌+◌, take, position, bytes_eq, ArePut}
 use Rattle.policy_core.proofs.LeafPlaces.{put-some, put-none}
 use Rattle.policy_core.proofs.homes.put.Goals.{in-Some, in_default}
 use Rattle.policy_core.proofs.homes.put.Goals as goal

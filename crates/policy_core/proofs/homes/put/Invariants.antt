@@ -1,5 +1,4 @@
-use Rattle.std.proofs.Common.{take}
-use Rattle.policy_core.specs.Homes.{ArePut}
+use Rattle.policy_core.proofs.Prelude.{take, ArePut}
 use Rattle.policy_core.proofs.homes.put.Given as goal
 
 abbrev pub invariant-loop-name : goal.invariant-loop-name

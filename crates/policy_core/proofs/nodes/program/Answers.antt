@@ -1,5 +1,4 @@
-use Rattle.std.proofs.Common.{◌∙◌, sym, subst, ℕ}
-use Rattle.policy_core.specs.Made.{IsPlaceOf}
+use Rattle.policy_core.proofs.Prelude.{ℕ, sym, subst, ◌∙◌, IsPlaceOf}
 use Rattle.policy_core.proofs.Programs.{place-of}
 use Rattle.policy_core.proofs.nodes.program.Goals as goal
 

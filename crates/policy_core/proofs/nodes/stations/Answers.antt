@@ -1,12 +1,4 @@
-use Rattle.std.proofs.Common.{◌∙◌, ◌++◌, ap, sym, List, []}
-use Rattle.std.specs.List.{cons_option}
-use Rattle.policy_text_defs.specs.Sense.{sense_of}
-use Rattle.policy_defs.specs.Policy.{Node}
-use Rattle.policy_rules.specs.Names.{before}
-use Rattle.policy_rules.specs.Entries.{entries_of}
-use Rattle.policy_rules.specs.Graph.{node_in}
-use Rattle.policy_core.specs.Made.{AreMore}
-use Rattle.policy_rules.proofs.Lines.{given-more}
+use Rattle.policy_core.proofs.Prelude.{List, ap, sym, [], ◌∙◌, ◌++◌, cons_option, Node, given-more, entries_of, node_in, before, sense_of, AreMore}
 use Rattle.policy_core.proofs.StatementUses.{known-here}
 use Rattle.policy_core.proofs.nodes.stations.Goals as goal
 

@@ -1,10 +1,4 @@
-use Rattle.std.proofs.Common.{◌≡◌, take}
-use Rattle.std.specs.Prelude.{filter_map}
-use Rattle.policy_rules.specs.Entries.{entries_of}
-use Rattle.policy_rules.specs.Graph.{node_in}
-use Rattle.policy_rules.specs.Known.{known_programs}
-use Rattle.policy_core.specs.Made.{nodes_told}
-use Rattle.policy_core.specs.Parts.{HavePrograms}
+use Rattle.policy_core.proofs.Prelude.{◌≡◌, take, filter_map, entries_of, node_in, known_programs, nodes_told, HavePrograms}
 use Rattle.policy_core.proofs.nodes.stations.Given as goal
 
 abbrev pub invariant-loop-statement : goal.invariant-loop-statement

@@ -1,11 +1,4 @@
-use Rattle.std.proofs.Common.{◌≡◌, List, [], ◌∷◌, ◌++◌, map, take}
-use Rattle.std.specs.Prelude.{codes}
-use Rattle.std.proofs.lemmas.Result.{on_ok_weaker}
-use Rattle.policy_text_defs.specs.declared.condition.Condition.TheVariants.{Dest}
-use Rattle.policy_text_defs.specs.declared.condition.FieldName.TheVariants.{Dscp, Dport}
-use Rattle.policy_text_defs.specs.Statements.{unset}
-use Rattle.policy_text_defs.specs.Sense.{Sense, sense_of, class}
-use Rattle.policy_core.specs.Office.{exactly, tcp, udp, backup_network, office_classes}
+use Rattle.policy_core.proofs.Prelude.{List, ◌≡◌, [], ◌∷◌, map, ◌++◌, take, on_ok_weaker, codes, Sense, class, sense_of, unset, Dest, Dport, Dscp, backup_network, exactly, tcp, udp, office_classes}
 use Rattle.policy_core.proofs.OfficeLines.{one-more}
 use Rattle.policy_core.proofs.office.add_classes.Goals as goal
 

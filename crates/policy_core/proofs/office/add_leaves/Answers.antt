@@ -1,9 +1,5 @@
-use Rattle.std.proofs.Common.{◌≡◌, List, [], ◌∷◌, ◌++◌, None, Some, map, take}
-use Rattle.std.specs.Prelude.{codes}
-use Rattle.std.proofs.lemmas.Result.{on_ok_weaker}
-use Rattle.policy_text_defs.specs.Statements.{unset}
-use Rattle.policy_text_defs.specs.Sense.{Sense, sense_of, leaf}
-use Rattle.policy_core.specs.Office.{of_weight, office_leaves}
+use Rattle.policy_core.proofs.Prelude.{List, ◌≡◌, [], ◌∷◌, Some, map, None, ◌++◌, take, on_ok_weaker, codes, Sense, sense_of, unset, of_weight, office_leaves}
+use Rattle.policy_text_defs.specs.Sense.{leaf}
 use Rattle.policy_core.proofs.OfficeLines.{one-more}
 use Rattle.policy_core.proofs.office.add_leaves.Goals as goal
 

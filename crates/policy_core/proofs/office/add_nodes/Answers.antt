@@ -1,9 +1,4 @@
-use Rattle.std.proofs.Common.{◌≡◌, List, [], ◌∷◌, ◌++◌, Some, map, take}
-use Rattle.std.specs.Prelude.{codes}
-use Rattle.std.proofs.lemmas.Result.{on_ok_weaker}
-use Rattle.policy_text_defs.specs.Statements.{unset}
-use Rattle.policy_text_defs.specs.Sense.{Sense, sense_of, node}
-use Rattle.policy_core.specs.Office.{of_prio, office_nodes}
+use Rattle.policy_core.proofs.Prelude.{List, ◌≡◌, [], ◌∷◌, Some, map, ◌++◌, take, on_ok_weaker, codes, Sense, node, sense_of, unset, of_prio, office_nodes}
 use Rattle.policy_core.proofs.OfficeLines.{one-more}
 use Rattle.policy_core.proofs.office.add_nodes.Goals as goal
 

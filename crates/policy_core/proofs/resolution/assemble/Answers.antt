@@ -1,13 +1,7 @@
-use Rattle.std.proofs.Common.{◌∙◌, ℕ, List, ap, sym, subst, length, arith}
-use Rattle.std.proofs.lemmas.List.{length-map}
-use Rattle.policy_rules.specs.Entries.{entries_of}
-use Rattle.policy_rules.specs.Graph.{graph_of}
-use Rattle.policy_rules.specs.Resolved.{Resolved, IsResolved}
-use Rattle.tree_graph.specs.Descent.{Graph, lists, IsForest, IsDeep}
+use Rattle.policy_core.proofs.Prelude.{List, ℕ, ap, sym, subst, ◌∙◌, arith, length, length-map, entries_of, graph_of, Resolved, IsResolved, Graph, lists, IsForest, IsDeep, AreHomes}
 use Rattle.tree_graph.specs.Preorder.{Numbered, IsSound}
 use Rattle.policy_rules.proofs.KnownPrograms.{shaped_known}
 use Rattle.policy_core.proofs.FamilyFaults.{is-forest, is-shallow}
-use Rattle.policy_core.specs.Homes.{AreHomes}
 use Rattle.policy_core.proofs.AssembledParts.{root-is, root-small, graph-few, homes-count, parts-made, leaves-there, few-made, catch-all-made, stations-there, accepted-made, built-in-made, resolved-made}
 use Rattle.policy_core.proofs.resolution.assemble.Goals as goal
 

@@ -1,9 +1,4 @@
-use Rattle.std.proofs.Common.{sym, subst, List, ℕ}
-use Rattle.std.specs.Prelude.{OnOk, IfErr}
-use Rattle.policy_text_defs.specs.declared.statement.Statement.{Statement}
-use Rattle.policy_text.specs.Entries.{IsRising, AreWritten}
-use Rattle.policy_rules.specs.Accepted.{AreAccepted, IsFault}
-use Rattle.policy_rules.specs.Entries.{entries_of}
+use Rattle.policy_core.proofs.Prelude.{List, ℕ, sym, subst, IfErr, OnOk, AreAccepted, IsFault, entries_of, AreWritten, IsRising, Statement}
 use Rattle.policy_core.proofs.WrittenLines.{rising, valid}
 use Rattle.policy_core.proofs.resolution.resolve.Goals as goal
 

@@ -1,7 +1,4 @@
-use Rattle.std.proofs.Common.{◌≡◌, ◌++◌, map, drop}
-use Rattle.rank_defs.specs.Programs.{program_of}
-use Rattle.policy_rules.specs.Entries.{entries_of}
-use Rattle.policy_rules.specs.Programs.{programs}
+use Rattle.policy_rules.proofs.Prelude.{◌≡◌, ◌++◌, map, drop, program_of, entries_of, programs}
 use Rattle.policy_rules.proofs.bodies.add_written.Given as goal
 
 abbrev pub invariant-loop-place : goal.invariant-loop-place

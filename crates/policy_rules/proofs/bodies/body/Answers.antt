@@ -1,8 +1,4 @@
-use Rattle.std.proofs.Common.{rules, tests, ◌≡◌, ◌∙◌, position, not, sym}
-use Rattle.std.proofs.lemmas.Iterator.{YieldsList-from_slice}
-use Rattle.std.proofs.lemmas.Iterator.Search.{position_from_yields_List}
-use Rattle.policy_text_defs.specs.Sense.{sense_of}
-use Rattle.policy_rules.specs.Bodies.{is_body}
+use Rattle.policy_rules.proofs.Prelude.{◌∙◌, ◌≡◌, sym, not, position, rules, tests, YieldsList-from_slice, position_from_yields_List, sense_of, is_body}
 use Rattle.policy_rules.proofs.Lines.{Line, entry_of}
 use Rattle.policy_rules.proofs.BodyFronts.{front_some, front_none}
 use Rattle.policy_rules.proofs.bodies.body.Goals as goal

@@ -1,9 +1,4 @@
-use Rattle.std.proofs.Common.{◌++◌, ◌∙◌, sym, ap, subst, List}
-use Rattle.std.specs.List.{AllByRecursion}
-use Rattle.rank_defs.specs.Programs.{Program}
-use Rattle.rank_defs.specs.Shapes.{IsShaped}
-use Rattle.policy_rules.specs.Entries.{entries_of}
-use Rattle.policy_rules.specs.Programs.{programs}
+use Rattle.policy_rules.proofs.Prelude.{◌∙◌, ap, List, sym, ◌++◌, subst, AllByRecursion, Program, IsShaped, entries_of, programs}
 use Rattle.policy_rules.proofs.KnownPrograms.{shaped_known, fault_answered}
 use Rattle.policy_rules.proofs.checked.checked_transactions.Goals as goal
 

@@ -1,8 +1,4 @@
-use Rattle.std.proofs.Common.{not}
-use Rattle.policy_rules.specs.Clauses.{is_known}
-use Rattle.policy_rules.specs.Entries.{entries_of}
-use Rattle.policy_rules.specs.Passes.{Passed}
-use Rattle.policy_rules.specs.Kept.{AreVariables}
+use Rattle.policy_rules.proofs.Prelude.{not, is_known, entries_of, AreVariables, Passed}
 use Rattle.policy_rules.proofs.known.first_unknown.Given as goal
 
 abbrev pub invariant-loop-line : goal.invariant-loop-line

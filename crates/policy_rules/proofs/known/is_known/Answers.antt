@@ -1,9 +1,4 @@
-use Rattle.std.proofs.Common.{◌≡◌, ◌∙◌, sym, ap, ◌&&◌, ◌||◌, codes, Bool, true, false}
-use Rattle.std.specs.Str.{bytes_eq}
-use Rattle.policy_text_defs.specs.Phrase.{phrase_of}
-use Rattle.policy_text_defs.specs.Sense.{sense_of}
-use Rattle.policy_rules.specs.Names.{Name, has}
-use Rattle.policy_rules.specs.Clauses.{is_known, are_operands_known}
+use Rattle.policy_rules.proofs.Prelude.{◌∙◌, ap, ◌≡◌, sym, false, Bool, true, ◌||◌, ◌&&◌, codes, bytes_eq, phrase_of, sense_of, is_known, are_operands_known, Name, has}
 use Rattle.policy_rules.proofs.Operands.{push_known, pop_known}
 use Rattle.policy_rules.proofs.known.is_known.Goals as goal
 

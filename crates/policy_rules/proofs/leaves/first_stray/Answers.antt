@@ -1,7 +1,4 @@
-use Rattle.std.proofs.Common.{sym, ◌∙◌, true≢false}
-use Rattle.policy_rules.specs.Clauses.{IsNotListedOnce}
-use Rattle.policy_rules.specs.Entries.{entries_of}
-use Rattle.policy_rules.specs.Names.{listed, leaf_classes}
+use Rattle.policy_rules.proofs.Prelude.{◌∙◌, sym, true≢false, IsNotListedOnce, entries_of, listed, leaf_classes}
 use Rattle.policy_rules.proofs.Lines.{least-line, fine-line}
 use Rattle.policy_rules.proofs.leaves.first_stray.Goals as goal
 

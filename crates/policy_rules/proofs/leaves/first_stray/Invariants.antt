@@ -1,6 +1,4 @@
-use Rattle.std.specs.List.{AllWithin}
-use Rattle.policy_rules.specs.Entries.{entries_of}
-use Rattle.policy_rules.specs.Clauses.{IsNotListedOnce}
+use Rattle.policy_rules.proofs.Prelude.{AllWithin, IsNotListedOnce, entries_of}
 use Rattle.policy_rules.proofs.leaves.first_stray.Given as goal
 
 abbrev pub invariant-loop-line : goal.invariant-loop-line

@@ -1,6 +1,4 @@
-use Rattle.std.proofs.Common.{◌∙◌, ap, sym}
-use Rattle.policy_text_defs.specs.Sense.{sense_of}
-use Rattle.policy_rules.specs.Statements.{is_catch_all}
+use Rattle.policy_rules.proofs.Prelude.{◌∙◌, ap, sym, sense_of, is_catch_all}
 use Rattle.policy_rules.proofs.CatchAlls.{catch_all-more, at_class, at_another}
 use Rattle.policy_rules.proofs.leaves.has_catch_all.Goals as goal
 use Rattle.policy_rules.proofs.leaves.has_catch_all.Goals.{in-Class, in_default}

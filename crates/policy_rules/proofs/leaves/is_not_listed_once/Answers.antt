@@ -1,8 +1,4 @@
-use Rattle.std.proofs.Common.{ap, not, sym, ◌∙◌}
-use Rattle.policy_text_defs.specs.declared.statement.Statement.{Statement}
-use Rattle.policy_text_defs.specs.Sense.{sense_of}
-use Rattle.policy_rules.specs.Names.{is_once}
-use Rattle.policy_rules.specs.Clauses.{is_not_listed_once}
+use Rattle.policy_rules.proofs.Prelude.{◌∙◌, ap, sym, not, sense_of, Statement, is_not_listed_once, is_once}
 use Rattle.policy_rules.proofs.leaves.is_not_listed_once.Goals as goal
 
 pub returns-in-Class : goal.returns-in-Class

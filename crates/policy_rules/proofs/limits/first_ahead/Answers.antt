@@ -1,6 +1,4 @@
-use Rattle.std.proofs.Common.{sym, ◌∙◌, true≢false}
-use Rattle.policy_rules.specs.Clauses.{NeedsVersion2}
-use Rattle.policy_rules.specs.Entries.{entries_of}
+use Rattle.policy_rules.proofs.Prelude.{◌∙◌, sym, true≢false, NeedsVersion2, entries_of}
 use Rattle.policy_rules.proofs.Lines.{least-line, fine-line}
 use Rattle.policy_rules.proofs.FirstVersion.{first-version}
 use Rattle.policy_rules.proofs.limits.first_ahead.Goals as goal

@@ -1,6 +1,4 @@
-use Rattle.std.specs.List.{AllWithin}
-use Rattle.policy_rules.specs.Entries.{entries_of}
-use Rattle.policy_rules.specs.Clauses.{NeedsVersion2}
+use Rattle.policy_rules.proofs.Prelude.{AllWithin, NeedsVersion2, entries_of}
 use Rattle.policy_rules.proofs.limits.first_ahead.Given as goal
 
 abbrev pub invariant-loop-line : goal.invariant-loop-line

@@ -1,7 +1,4 @@
-use Rattle.std.proofs.Common.{sym, ◌∙◌, true≢false}
-use Rattle.policy_rules.specs.Clauses.{IsOrphan}
-use Rattle.policy_rules.specs.Entries.{entries_of}
-use Rattle.policy_rules.specs.Names.{listed, children}
+use Rattle.policy_rules.proofs.Prelude.{◌∙◌, sym, true≢false, IsOrphan, entries_of, listed, children}
 use Rattle.policy_rules.proofs.Lines.{least-line, fine-line}
 use Rattle.policy_rules.proofs.parents.first_orphan.Goals as goal
 

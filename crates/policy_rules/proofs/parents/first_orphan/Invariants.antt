@@ -1,6 +1,4 @@
-use Rattle.std.specs.List.{AllWithin}
-use Rattle.policy_rules.specs.Entries.{entries_of}
-use Rattle.policy_rules.specs.Clauses.{IsOrphan}
+use Rattle.policy_rules.proofs.Prelude.{AllWithin, IsOrphan, entries_of}
 use Rattle.policy_rules.proofs.parents.first_orphan.Given as goal
 
 abbrev pub invariant-loop-line : goal.invariant-loop-line

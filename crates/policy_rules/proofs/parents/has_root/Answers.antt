@@ -1,10 +1,5 @@
-use Rattle.std.proofs.Common.{rules, ◌∙◌}
-use Rattle.std.proofs.lemmas.Iterator.{YieldsList-from_slice}
-use Rattle.std.proofs.lemmas.Iterator.Search.{any_from_yields_List}
-use borrow.Author.Tests.{tests}
-use Rattle.policy_text_defs.specs.Sense.{sense_of}
+use Rattle.policy_rules.proofs.Prelude.{◌∙◌, rules, tests, YieldsList-from_slice, any_from_yields_List, sense_of, is_root}
 use Rattle.policy_rules.proofs.Roots.{has_root-any}
-use Rattle.policy_rules.specs.Statements.{is_root}
 use Rattle.policy_rules.proofs.parents.has_root.Goals as goal
 
 pub returns : goal.returns

@@ -1,8 +1,4 @@
-use Rattle.std.proofs.Common.{List, ℕ, ap, not, ◌∙◌}
-use Rattle.std.specs.Str.{bytes_eq}
-use Rattle.policy_text_defs.specs.Sense.{sense_of}
-use Rattle.policy_rules.specs.Names.{is_once}
-use Rattle.policy_rules.specs.Clauses.{root}
+use Rattle.policy_rules.proofs.Prelude.{◌∙◌, ap, List, ℕ, not, bytes_eq, sense_of, root, is_once}
 use Rattle.policy_rules.proofs.Orphans.{orphan-counted, named}
 use Rattle.policy_rules.proofs.parents.is_orphan.Goals as goal
 

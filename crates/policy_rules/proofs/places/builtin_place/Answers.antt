@@ -1,7 +1,4 @@
-use Rattle.std.proofs.Common.{rules, tests, ◌≡◌, ◌∙◌, List, ℕ, Bor, position, map, ap}
-use Rattle.std.specs.Str.{bytes_eq}
-use Rattle.std.proofs.lemmas.Iterator.{YieldsList-from_slice}
-use Rattle.std.proofs.lemmas.Iterator.Search.{position_from_yields_List}
+use Rattle.policy_rules.proofs.Prelude.{◌∙◌, ap, List, ◌≡◌, ℕ, map, position, rules, tests, Bor, YieldsList-from_slice, position_from_yields_List, bytes_eq}
 use Rattle.policy_rules.proofs.Texts.{position-map}
 use Rattle.policy_rules.proofs.places.builtin_place.Goals as goal
 

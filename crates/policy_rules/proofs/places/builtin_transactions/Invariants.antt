@@ -1,6 +1,4 @@
-use Rattle.std.proofs.Common.{◌≡◌, map, take}
-use Rattle.rank_defs.specs.Builtins.{builtins}
-use Rattle.rank_defs.specs.Programs.{program_of}
+use Rattle.policy_rules.proofs.Prelude.{◌≡◌, take, map, builtins, program_of}
 use Rattle.policy_rules.proofs.places.builtin_transactions.Given as goal
 
 abbrev pub invariant-loop-name : goal.invariant-loop-name

@@ -1,8 +1,4 @@
-use Rattle.std.proofs.Common.{◌≡◌, ◌∙◌, sym, ap, not, take, option_map, Option, Some, List}
-use Rattle.policy_text_defs.specs.Sense.{Sense, Entry, sense_of}
-use Rattle.policy_rules.specs.Clauses.{is_placed}
-use Rattle.policy_rules.specs.Entries.{entries_of}
-use Rattle.policy_rules.specs.Kept.{last_sense, is_placed_behind}
+use Rattle.policy_rules.proofs.Prelude.{◌∙◌, ap, List, ◌≡◌, sym, take, not, Some, Option, option_map, Entry, sense_of, Sense, is_placed, entries_of, last_sense, is_placed_behind}
 use Rattle.policy_rules.proofs.BodyVariables.{placed_behind, last_sense-push}
 use Rattle.policy_rules.proofs.Lines.{entry_of}
 use Rattle.policy_rules.proofs.PassLemmas.{ends_here, goes_on}

@@ -1,9 +1,4 @@
-use Rattle.std.proofs.Common.{◌≡◌, not, option_map}
-use Rattle.policy_text_defs.specs.Sense.{sense_of}
-use Rattle.policy_rules.specs.Clauses.{is_placed}
-use Rattle.policy_rules.specs.Entries.{entries_of}
-use Rattle.policy_rules.specs.Passes.{Passed}
-use Rattle.policy_rules.specs.Kept.{last_sense}
+use Rattle.policy_rules.proofs.Prelude.{◌≡◌, not, option_map, sense_of, is_placed, entries_of, last_sense, Passed}
 use Rattle.policy_rules.proofs.placing.first_misplaced.Given as goal
 
 abbrev pub invariant-loop-line : goal.invariant-loop-line

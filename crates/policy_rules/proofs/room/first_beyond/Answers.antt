@@ -1,8 +1,4 @@
-use Rattle.std.proofs.Common.{◌∙◌, sym, ap, not, take, List}
-use Rattle.policy_text_defs.specs.Sense.{Entry}
-use Rattle.policy_rules.specs.Clauses.{is_one_too_many}
-use Rattle.policy_rules.specs.Entries.{entries_of}
-use Rattle.policy_rules.specs.Kept.{IsRoom}
+use Rattle.policy_rules.proofs.Prelude.{◌∙◌, ap, List, sym, take, not, Entry, is_one_too_many, entries_of, IsRoom}
 use Rattle.policy_rules.proofs.PassLemmas.{ends_here, goes_on}
 use Rattle.policy_rules.proofs.room.first_beyond.Goals as goal
 

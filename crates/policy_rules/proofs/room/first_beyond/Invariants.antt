@@ -1,7 +1,4 @@
-use Rattle.policy_rules.specs.Clauses.{is_one_too_many}
-use Rattle.policy_rules.specs.Entries.{entries_of}
-use Rattle.policy_rules.specs.Passes.{Passed}
-use Rattle.policy_rules.specs.Kept.{IsRoom}
+use Rattle.policy_rules.proofs.Prelude.{is_one_too_many, entries_of, IsRoom, Passed}
 use Rattle.policy_rules.proofs.room.first_beyond.Given as goal
 
 abbrev pub invariant-loop-line : goal.invariant-loop-line

@@ -1,8 +1,4 @@
-use Rattle.std.proofs.Common.{◌∙◌, sym, take, List}
-use Rattle.policy_text_defs.specs.Sense.{Entry}
-use Rattle.policy_rules.specs.Clauses.{is_declared}
-use Rattle.policy_rules.specs.Entries.{entries_of}
-use Rattle.policy_rules.specs.Kept.{AreSpaces, AreVariables}
+use Rattle.policy_rules.proofs.Prelude.{◌∙◌, List, sym, take, Entry, is_declared, entries_of, AreVariables, AreSpaces}
 use Rattle.policy_rules.proofs.PassLemmas.{ends_here, goes_on, none_fails}
 use Rattle.policy_rules.proofs.spaces.declared.Goals as goal
 

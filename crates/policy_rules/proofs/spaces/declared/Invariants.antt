@@ -1,7 +1,4 @@
-use Rattle.policy_rules.specs.Clauses.{is_declared}
-use Rattle.policy_rules.specs.Entries.{entries_of}
-use Rattle.policy_rules.specs.Passes.{Passed}
-use Rattle.policy_rules.specs.Kept.{AreSpaces, AreVariables}
+use Rattle.policy_rules.proofs.Prelude.{is_declared, entries_of, AreVariables, AreSpaces, Passed}
 use Rattle.policy_rules.proofs.spaces.declared.Given as goal
 
 abbrev pub invariant-loop-line : goal.invariant-loop-line

@@ -1,7 +1,4 @@
-use Rattle.std.proofs.Common.{take}
-use Rattle.policy_rules.specs.KnownNames.{IsTally}
-use Rattle.policy_rules.specs.Entries.{entries_of}
-use Rattle.policy_rules.specs.Names.{listed, leaf_classes}
+use Rattle.policy_rules.proofs.Prelude.{take, entries_of, IsTally, listed, leaf_classes}
 use Rattle.policy_rules.proofs.tallies.tally_classes.Given as goal
 
 abbrev pub invariant-loop-statement : goal.invariant-loop-statement

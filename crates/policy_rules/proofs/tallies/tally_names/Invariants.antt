@@ -1,5 +1,4 @@
-use Rattle.std.proofs.Common.{ℕ, List, ◌++◌, take}
-use Rattle.policy_rules.specs.KnownNames.{IsTally}
+use Rattle.policy_rules.proofs.Prelude.{List, ℕ, ◌++◌, take, IsTally}
 use Rattle.policy_rules.proofs.tallies.tally_names.Given as goal
 
 abbrev pub invariant-loop-name : goal.invariant-loop-name

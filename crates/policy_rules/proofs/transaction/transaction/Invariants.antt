@@ -1,7 +1,4 @@
-use Rattle.std.proofs.Common.{◌≡◌, take}
-use Rattle.rank_defs.specs.Programs.{program_of}
-use Rattle.policy_rules.specs.Entries.{entries_of}
-use Rattle.policy_rules.specs.CheckedBodies.{program_over}
+use Rattle.policy_rules.proofs.Prelude.{◌≡◌, take, program_of, program_over, entries_of}
 use Rattle.policy_rules.proofs.transaction.transaction.Given as goal
 
 abbrev pub invariant-loop-line : goal.invariant-loop-line

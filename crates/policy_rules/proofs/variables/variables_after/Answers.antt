@@ -1,7 +1,5 @@
-use Rattle.std.proofs.Common.{ap, refl, inl, inr, ◌∙◌}
-use Rattle.policy_text_defs.specs.Sense.{sense_of, entry}
-use Rattle.policy_rules.specs.Bodies.{is_transaction}
-use Rattle.policy_rules.specs.KnownNames.{with_name}
+use Rattle.policy_rules.proofs.Prelude.{◌∙◌, ap, refl, inl, inr, sense_of, is_transaction, with_name}
+use Rattle.policy_text_defs.specs.Sense.{entry}
 use Rattle.policy_rules.proofs.OpenVariables.{variables-opened, same_at, added_at}
 use Rattle.policy_rules.proofs.variables.variables_after.Goals as goal
 

@@ -1,5 +1,4 @@
-use Rattle.std.proofs.Common.{rules, ◌≡◌, is_some, List, ℕ, subst}
-use Rattle.rank_defs.specs.Builtins.{builtin}
+use Rattle.policy_rules.proofs.Prelude.{List, ◌≡◌, ℕ, subst, rules, is_some, builtin}
 use Rattle.policy_rules.proofs.words.is_builtin.Goals as goal
 
 pub returns : goal.returns

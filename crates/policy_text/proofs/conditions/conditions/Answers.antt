@@ -1,8 +1,5 @@
-use Rattle.std.proofs.Common.{sym, ap, ◌∙◌}
-use Rattle.std.proofs.lemmas.Result.{err_from_is_err_and}
-use Rattle.policy_text_defs.specs.Reading.{pure}
+use Rattle.policy_text.proofs.Prelude.{ap, sym, ◌∙◌, err_from_is_err_and, repeats_more, repeats_over, repeats_stuck, pure}
 use Rattle.policy_text_defs.proofs.GuardLaws.{condition_shrinks}
-use Rattle.policy_text_defs.proofs.RepeatLoops.{repeats_more, repeats_over, repeats_stuck}
 use Rattle.policy_text.proofs.LoopLaws.{condition_read, condition_unread, repeats_at}
 use Rattle.policy_text.proofs.Refusals.{refused}
 use Rattle.policy_text.proofs.conditions.conditions.Goals as goal

@@ -1,8 +1,6 @@
-use Rattle.std.proofs.Common.{codes, length}
-use Rattle.text_core.specs.Glyphs.{glyphs_of}
+use Rattle.policy_text.proofs.Prelude.{length, codes, Repeats, glyphs_of}
 use Rattle.policy_text_defs.specs.Reading as spec
 use Rattle.policy_text_defs.specs.StatementReading as forms
-use Rattle.policy_text_defs.proofs.RepeatLoops.{Repeats}
 use Rattle.policy_text.proofs.conditions.conditions.Given as goal
 
 abbrev pub invariant-loop-conditions : goal.invariant-loop-conditions

@@ -1,5 +1,4 @@
-use Rattle.std.proofs.Common.{refl, sym, ◌∙◌, subst}
-use Rattle.policy_text.specs.States.{StatesErr}
+use Rattle.policy_text.proofs.Prelude.{sym, ◌∙◌, refl, subst, StatesErr}
 use Rattle.policy_text.proofs.TextSteps.{form_of}
 use Rattle.policy_text.proofs.line.read_line.Goals as goal
 

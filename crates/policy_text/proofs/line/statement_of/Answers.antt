@@ -1,5 +1,4 @@
-use Rattle.std.proofs.Common.{ap}
-use Rattle.text_core.specs.Glyphs.{glyphs_of}
+use Rattle.policy_text.proofs.Prelude.{ap, glyphs_of}
 use Rattle.policy_text.proofs.TextSteps.{form_of_said}
 use Rattle.policy_text.proofs.line.statement_of.Goals as goal
 

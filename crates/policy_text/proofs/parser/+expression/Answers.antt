@@ -1,6 +1,4 @@
-use Rattle.std.proofs.Common.{◌≡◌, suc, max, [], arith, ap}
-use Rattle.std.proofs.lemmas.Result.{err_from_is_err_and}
-use Rattle.policy_text_defs.specs.Phrase.{phrase_of, depth}
+use Rattle.policy_text.proofs.Prelude.{◌≡◌, ap, [], arith, suc, max, err_from_is_err_and, phrase_of, depth}
 use Rattle.policy_text_defs.proofs.ChainLemmas.{chain_more, chain_stuck, chain_deep, limited_some}
 use Rattle.policy_text.proofs.Refusals.{refused}
 use Rattle.policy_text.proofs.parser.+expression.Goals as goal

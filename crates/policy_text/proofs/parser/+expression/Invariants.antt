@@ -1,6 +1,4 @@
-use Rattle.std.proofs.Common.{◌+◌, ◌*◌, ◌-◌}
-use Rattle.text_core.specs.Glyphs.{glyphs_of}
-use Rattle.policy_text_defs.specs.Phrase.{phrase_of}
+use Rattle.policy_text.proofs.Prelude.{◌+◌, ◌*◌, ◌-◌, phrase_of, glyphs_of}
 use Rattle.policy_text_defs.specs.Grammar as grammar
 use Rattle.policy_text_defs.specs.Reading as spec
 use Rattle.policy_text_defs.proofs.ChainLemmas.{TurnsOn}

@@ -1,6 +1,4 @@
-use Rattle.std.proofs.Common.{◌≡◌, ◌++◌, drop, map}
-use Rattle.policy_text_defs.specs.Canonical.{canonical_text}
-use Rattle.policy_text.specs.Entries.{sense_at}
+use Rattle.policy_text.proofs.Prelude.{◌≡◌, ◌++◌, map, drop, canonical_text, sense_at}
 use Rattle.policy_text.proofs.printing.put_lines.Given as goal
 
 abbrev pub invariant-loop-statement : goal.invariant-loop-statement

@@ -1,7 +1,5 @@
-use Rattle.std.proofs.Common.{◌≡◌, [], ◌∷◌, ◌++◌, sym, ap, refl, ◌∙◌}
-use Rattle.policy_text_defs.specs.Reading.{pure}
+use Rattle.policy_text.proofs.Prelude.{◌≡◌, ap, sym, ◌++◌, ◌∙◌, refl, [], ◌∷◌, repeats_more, repeats_over, pure}
 use Rattle.policy_text_defs.proofs.AttributeLaws.{name_shrinks}
-use Rattle.policy_text_defs.proofs.RepeatLoops.{repeats_more, repeats_over}
 use Rattle.policy_text.proofs.LoopLaws.{names_start, repeats_at}
 use Rattle.policy_text.proofs.statements.names.Goals as goal
 

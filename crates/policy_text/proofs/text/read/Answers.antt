@@ -1,6 +1,4 @@
-use Rattle.std.proofs.Common.{refl, ap, ◌+◌, ◌∙◌, map, length, arith}
-use Rattle.std.proofs.lemmas.Result.{err_from_is_err_and}
-use Rattle.text_core.specs.Lines.{line_text}
+use Rattle.policy_text.proofs.Prelude.{ap, length, ◌∙◌, refl, map, ◌+◌, arith, err_from_is_err_and, line_text}
 use Rattle.policy_text.proofs.EntryLaws.{rising, written, entries_rise, entries_written}
 use Rattle.policy_text.proofs.TextSteps.{sofar_start, sofar_next, cause_here, all_taken}
 use Rattle.policy_text.proofs.text.read.Goals as goal

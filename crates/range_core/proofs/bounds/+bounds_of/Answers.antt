@@ -1,8 +1,5 @@
-use Rattle.rank_defs.specs.Formulas.{formula_of}
-use Rattle.rank_defs.specs.Programs.{program_of}
-use Rattle.rank_defs.specs.Ranges.{declared}
+use Rattle.range_core.proofs.Prelude.{whole_proper, formula_of, program_of, declared}
 use Rattle.rank_defs.proofs.Spans.{declared-ordered}
-use Rattle.rank_defs.proofs.NarrowIntervals.{whole_proper}
 use Rattle.range_core.proofs.bounds.+bounds_of.Goals as goal
 
 pub combined-requires-clause-left : goal.combined-requires-clause-left

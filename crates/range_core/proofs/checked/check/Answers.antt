@@ -1,7 +1,4 @@
-use Rattle.std.proofs.Common.{◌≡◌, ◌↔◌, ℕ, List, Some, map, rules, subst}
-use Rattle.rank_defs.specs.declared.transaction.Transaction.{Transaction}
-use Rattle.rank_defs.specs.Programs.{program_of}
-use Rattle.rank_defs.specs.Checks.{ClashesFirstAt, IsWideFirstAt, DividesByZeroFirstAt}
+use Rattle.range_core.proofs.Prelude.{map, rules, ◌≡◌, subst, List, ℕ, Some, ◌↔◌, ClashesFirstAt, DividesByZeroFirstAt, IsWideFirstAt, program_of, Transaction}
 use Rattle.range_core.specs.declared.fault.RangeFault.TheVariants.{TypeClash, Wide, DivZero}
 use Rattle.range_core.proofs.LeastLines.{all-tame}
 use Rattle.range_core.proofs.ErrorLemmas.{as-error}

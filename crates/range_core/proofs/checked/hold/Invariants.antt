@@ -1,8 +1,4 @@
-use Rattle.std.proofs.Common.{◌≡◌, map, ◌++◌}
-use Rattle.std.specs.List.{AllByRecursion}
-use Rattle.rank_defs.specs.Programs.{program_of}
-use Rattle.rank_defs.specs.Shapes.{IsShaped}
-use Rattle.rank_defs.specs.Checks.{AreChecked}
+use Rattle.range_core.proofs.Prelude.{map, ◌≡◌, ◌++◌, AllByRecursion, AreChecked, program_of, IsShaped}
 use Rattle.range_core.proofs.checked.hold.Given as goal
 
 abbrev pub invariant-loop-transaction : goal.invariant-loop-transaction

@@ -1,7 +1,4 @@
-use Rattle.std.proofs.Common.{rules, arith, ◌≡◌}
-use Rattle.std.specs.Int.{int_min, int_max}
-use Rattle.std.proofs.lemmas.Int.{ints, clamps}
-use Rattle.rank_defs.proofs.NarrowIntervals.{at_numbers}
+use Rattle.range_core.proofs.Prelude.{rules, ◌≡◌, arith, ints, clamps, int_max, int_min, at_numbers}
 use Rattle.range_core.proofs.interval.joined.Goals as goal
 
 pub returns : goal.returns

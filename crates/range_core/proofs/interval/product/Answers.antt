@@ -1,8 +1,5 @@
-use Rattle.std.proofs.Common.{rules, FitsSigned}
-use Rattle.std.specs.Int.{w128}
+use Rattle.range_core.proofs.Prelude.{rules, FitsSigned, to_z-of_z, w128, at_four, corners_fit}
 use Rattle.std.specs.Prelude.{◌*ℤ◌}
-use Rattle.std.proofs.lemmas.Int.{to_z-of_z}
-use Rattle.rank_defs.proofs.NarrowIntervals.{corners_fit, at_four}
 use Rattle.range_core.proofs.interval.product.Goals as goal
 
 pub returns-in_err-a : goal.returns-in_err-a

@@ -1,8 +1,4 @@
-use Rattle.std.proofs.Common.{rules, FitsSigned, ◌≡◌, false}
-use Rattle.std.specs.Int.{w128}
-use Rattle.std.proofs.lemmas.Int.{to_z-of_z}
-use Rattle.rank_defs.specs.Ranges.{holds_zero}
-use Rattle.rank_defs.proofs.NarrowIntervals.{at_four}
+use Rattle.range_core.proofs.Prelude.{rules, ◌≡◌, FitsSigned, false, to_z-of_z, w128, at_four, holds_zero}
 use Rattle.range_core.proofs.interval.ratio.Goals as goal
 
 pub returns : goal.returns

@@ -1,7 +1,5 @@
-use Rattle.std.proofs.Common.{rules, arith, FitsSigned}
-use Rattle.std.specs.Int.{w128}
+use Rattle.range_core.proofs.Prelude.{rules, FitsSigned, arith, to_z-of_z, ints, w128}
 use Rattle.std.specs.Prelude.{◌+ℤ◌}
-use Rattle.std.proofs.lemmas.Int.{ints, to_z-of_z}
 use Rattle.range_core.proofs.interval.sum.Goals as goal
 
 pub returns : goal.returns

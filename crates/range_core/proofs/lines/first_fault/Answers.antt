@@ -1,6 +1,4 @@
-use Rattle.std.proofs.Common.{ℕ, map, Option, subst}
-use Rattle.rank_defs.specs.Programs.{program_of}
-use Rattle.rank_defs.specs.Checks.{entries, Clashes, IsWide, MayDivideByZero, IsLeastLine}
+use Rattle.range_core.proofs.Prelude.{map, subst, ℕ, Option, entries, IsWide, MayDivideByZero, Clashes, IsLeastLine, program_of}
 use Rattle.rank_defs.proofs.Faults.{faultless-checked}
 use Rattle.range_core.proofs.lines.first_fault.Goals as goal
 

@@ -1,8 +1,4 @@
-use Rattle.std.proofs.Common.{◌≡◌, inl, refl, ap, true, false}
-use Rattle.rank_defs.specs.Formulas.{formula_of}
-use Rattle.rank_defs.specs.Programs.{program_of, assignment_of}
-use Rattle.rank_defs.specs.Ranges.{declared, parts_divide}
-use Rattle.rank_defs.specs.Checks.{entry, IsWide, MayDivideByZero}
+use Rattle.range_core.proofs.Prelude.{◌≡◌, ap, false, refl, inl, true, entry, IsWide, MayDivideByZero, formula_of, program_of, assignment_of, declared, parts_divide}
 use Rattle.rank_defs.proofs.LeastFaults.{least-clear, least-fault}
 use Rattle.range_core.specs.declared.bounds.Bounds.{Bounds}
 use Rattle.range_core.proofs.lines.lines_of.Goals as goal

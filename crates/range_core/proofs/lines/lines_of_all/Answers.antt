@@ -1,7 +1,4 @@
-use Rattle.std.proofs.Common.{map, take, add-one}
-use Rattle.rank_defs.specs.Programs.{program_of, assignments}
-use Rattle.rank_defs.specs.Shapes.{IsShaped}
-use Rattle.rank_defs.specs.Checks.{entry, entries}
+use Rattle.range_core.proofs.Prelude.{map, take, add-one, entry, entries, program_of, assignments, IsShaped}
 use Rattle.range_core.proofs.LeastLines.{entries-next, all-at}
 use Rattle.range_core.proofs.lines.lines_of_all.Goals as goal
 

@@ -1,9 +1,5 @@
-use Rattle.std.proofs.Common.{List, map, subst, sym}
-use Rattle.std.proofs.lemmas.List.{map-append}
+use Rattle.range_core.proofs.Prelude.{map, subst, List, sym, map-append, entry, Entry, program_of, assignment_of, AreLeast}
 use Rattle.rank_defs.specs.declared.transaction.Assign.{Assign}
-use Rattle.rank_defs.specs.Programs.{program_of, assignment_of}
-use Rattle.rank_defs.specs.Checks.{Entry, entry}
-use Rattle.range_core.specs.LeastLines.{AreLeast}
 use Rattle.range_core.proofs.lines.lines_of_both.Goals as goal
 
 pub returns : goal.returns

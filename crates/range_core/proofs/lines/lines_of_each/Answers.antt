@@ -1,8 +1,4 @@
-use Rattle.std.proofs.Common.{List, map, take, ◌∷◌, [], subst, sym, add-one}
-use Rattle.std.proofs.lemmas.List.{map-append}
-use Rattle.rank_defs.specs.Programs.{program_of, assignment_of}
-use Rattle.rank_defs.specs.Checks.{Entry, entry}
-use Rattle.range_core.specs.LeastLines.{AreLeast}
+use Rattle.range_core.proofs.Prelude.{map, subst, take, List, sym, [], add-one, ◌∷◌, map-append, entry, Entry, program_of, assignment_of, AreLeast}
 use Rattle.range_core.proofs.LeastLines.{map-next}
 use Rattle.range_core.proofs.lines.lines_of_each.Goals as goal
 

@@ -1,5 +1,4 @@
-use Rattle.std.proofs.Common.{◌≡◌, drop, map}
-use Rattle.rank_core.specs.Table.{row, program_named}
+use Rattle.rank_core.proofs.Prelude.{◌≡◌, map, drop, program_named, row}
 use Rattle.rank_core.proofs.builtins.row_named.Given as goal
 
 abbrev pub invariant-loop-row : goal.invariant-loop-row

@@ -1,5 +1,4 @@
-use Rattle.std.proofs.Common.{◌≡◌, ◌≤◌, length}
-use Rattle.std.specs.List.{AllByRecursion}
+use Rattle.rank_core.proofs.Prelude.{◌≡◌, length, ◌≤◌, AllByRecursion}
 use Rattle.rank_core.proofs.eaches.of_children.Given as goal
 
 abbrev pub invariant-loop : goal.invariant-loop

@@ -1,5 +1,4 @@
-use Rattle.std.proofs.Common.{rules, ◌≡◌, ◌∙◌, ap, sym, Some, length}
-use Rattle.std.specs.Prelude.{slice_get}
+use Rattle.rank_core.proofs.Prelude.{◌≡◌, sym, rules, ◌∙◌, ap, length, Some, slice_get}
 use Rattle.std.proofs.lemmas.Option.{slice_get-get_or}
 use Rattle.rank_core.proofs.Lists.{get_set_same, refilled}
 use Rattle.rank_core.proofs.eaches.run_for_place.Goals as goal

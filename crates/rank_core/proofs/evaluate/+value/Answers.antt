@@ -1,10 +1,7 @@
-use Rattle.std.proofs.Common.{rules, ap, rules}
+use Rattle.rank_core.proofs.Prelude.{rules, ap, program_of, variable_in, memory_of}
 use Rattle.rank_defs.specs.Formulas.{formula_of}
-use Rattle.rank_defs.specs.States.{variable_in}
 use Rattle.rank_defs.specs.Ranges.{declared}
-use Rattle.rank_defs.specs.Programs.{program_of}
 use Rattle.rank_defs.proofs.Evaluation.{operation-fits, choice-true, choice-false, and-false, or-true}
-use Rattle.rank_core.specs.Scope.{memory_of}
 use Rattle.rank_core.proofs.evaluate.+value.Goals as goal
 
 pub number-computed-requires-clause-fits : goal.number-computed-requires-clause-fits

@@ -1,8 +1,4 @@
-use Rattle.std.proofs.Common.{arith, sym, subst, ◌∙◌, map}
-use Rattle.rank_defs.specs.Programs.{program_of, assignment_of}
-use Rattle.rank_defs.proofs.Spans.{length-within}
-use Rattle.rank_core.specs.Forms.{IsForm, AreFair}
-use Rattle.rank_core.specs.Scope.{memory}
+use Rattle.rank_core.proofs.Prelude.{sym, subst, ◌∙◌, arith, map, length-within, program_of, assignment_of, IsForm, AreFair, memory}
 use Rattle.rank_core.proofs.form.run_by_form.Goals as goal
 
 pub run_fair-requires-clause-keep : goal.run_fair-requires-clause-keep

@@ -1,5 +1,4 @@
-use Rattle.std.proofs.Common.{◌≡◌, take}
-use Rattle.rank_defs.specs.States.{firsts}
+use Rattle.rank_core.proofs.Prelude.{◌≡◌, take, firsts}
 use Rattle.rank_core.proofs.node.first_values.Given as goal
 
 abbrev pub invariant-loop-span : goal.invariant-loop-span

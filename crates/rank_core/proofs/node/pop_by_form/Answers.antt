@@ -1,10 +1,4 @@
-use Rattle.std.proofs.Common.{rules}
-use Rattle.rank_defs.specs.Programs.{program_of}
-use Rattle.rank_defs.specs.States.{SameState}
-use Rattle.rank_defs.specs.Steps.{after_pop}
-use Rattle.rank_defs.proofs.SameStates.{in_range-same, same-sym}
-use Rattle.rank_defs.proofs.SafeSteps.{safe_pop}
-use Rattle.rank_core.specs.Node.{state_of}
+use Rattle.rank_core.proofs.Prelude.{rules, safe_pop, in_range-same, same-sym, program_of, SameState, after_pop, state_of}
 use Rattle.rank_core.proofs.node.pop_by_form.Goals as goal
 
 pub returns-clause-in_range : goal.returns-clause-in_range

@@ -1,10 +1,4 @@
-use Rattle.std.proofs.Common.{rules, ◌≡◌, ◌≤◌, sym, subst}
-use Rattle.rank_defs.specs.Programs.{program_of, max_rank}
-use Rattle.rank_defs.specs.States.{SameState}
-use Rattle.rank_defs.specs.Steps.{push_rank, after_push}
-use Rattle.rank_defs.proofs.SameStates.{in_range-same, same-sym}
-use Rattle.rank_defs.proofs.SafeSteps.{safe_push}
-use Rattle.rank_core.specs.Node.{state_of}
+use Rattle.rank_core.proofs.Prelude.{◌≡◌, sym, rules, subst, ◌≤◌, safe_push, in_range-same, same-sym, program_of, max_rank, SameState, after_push, push_rank, state_of}
 use Rattle.rank_core.proofs.node.push_by_form.Goals as goal
 
 pub returns-clause-rank_limit : goal.returns-clause-rank_limit

@@ -1,14 +1,6 @@
-use Rattle.std.proofs.Common.{arith, ◌≡◌, ◌≤◌, ◌∙◌, [], sym, subst, ap, map}
-use Rattle.std.specs.Prelude.{pos}
-use Rattle.rank_defs.proofs.Spans.{length-within, span_at-proper}
+use Rattle.rank_core.proofs.Prelude.{◌≡◌, sym, subst, ◌∙◌, ap, arith, [], map, ◌≤◌, pos, length-within, span_at-proper, program_of, assignment_of, Memory, memory_for, write, clamped, Keep, IsForm, AreKept, RunAs, state_of, step_of}
 use Rattle.rank_defs.specs.declared.transaction.Span.{Span}
-use Rattle.rank_defs.specs.declared.transaction.Aim.TheVariants.{Keep}
-use Rattle.rank_defs.specs.Programs.{program_of, assignment_of}
-use Rattle.rank_defs.specs.States.{Memory, memory_for}
-use Rattle.rank_defs.specs.Steps.{clamped, write}
 use Rattle.rank_defs.specs.Values.{num}
-use Rattle.rank_core.specs.Forms.{IsForm, RunAs, AreKept}
-use Rattle.rank_core.specs.Node.{state_of, step_of}
 use Rattle.rank_core.proofs.NoLines.{rank_alone}
 use Rattle.rank_core.proofs.RankKept.{keep_alone}
 use Rattle.rank_core.proofs.node.run_at.Goals as goal

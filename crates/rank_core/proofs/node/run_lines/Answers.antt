@@ -1,7 +1,4 @@
-use Rattle.std.proofs.Common.{rules, ◌≡◌, ◌∙◌, length, refl, ap, List, ℕ, []}
-use Rattle.std.specs.Vec.{with_items}
-use Rattle.rank_core.specs.Node.{kept, kept_or}
-use Rattle.rank_core.specs.Scope.{memory, run_of}
+use Rattle.rank_core.proofs.Prelude.{◌≡◌, rules, ◌∙◌, List, ap, [], length, ℕ, refl, with_items, kept_or, kept, memory, run_of}
 use Rattle.rank_core.proofs.LinesRun.{lines_after}
 use Rattle.rank_core.proofs.Lists.{refilled}
 use Rattle.rank_core.proofs.node.run_lines.Goals as goal

@@ -1,5 +1,4 @@
-use Rattle.std.proofs.Common.{arith, ◌≡◌, ◌<◌, length}
-use Rattle.rank_defs.proofs.Spans.{length-within}
+use Rattle.rank_core.proofs.Prelude.{◌≡◌, arith, length, ◌<◌, length-within}
 use Rattle.rank_core.proofs.step.perform.Goals as goal
 
 pub bounds-keeps-k : goal.bounds-keeps-k

@@ -1,7 +1,4 @@
-use Rattle.std.proofs.Common.{rules, ◌≡◌, drop, ◌∷◌, ◌+◌}
-use Rattle.std.proofs.lemmas.List.{drop_more}
-use Rattle.rank_defs.specs.Programs.{program_of}
-use Rattle.rank_core.specs.Scope.{memory}
+use Rattle.rank_core.proofs.Prelude.{◌≡◌, rules, ◌∷◌, drop, ◌+◌, drop_more, program_of, memory}
 use Rattle.rank_core.proofs.AssignmentLoop.{turn}
 use Rattle.rank_core.proofs.step.run.Goals as goal
 

@@ -1,10 +1,4 @@
-use Rattle.std.proofs.Common.{◌≡◌, drop, map}
-use Rattle.std.specs.List.{AllByRecursion}
-use Rattle.rank_defs.specs.Steps.{run}
-use Rattle.rank_defs.specs.Shapes.{IsMemoryInRange, IsShapedAssignment}
-use Rattle.rank_defs.specs.Programs.{program_of, assignment_of}
-use Rattle.rank_defs.specs.Checks.{IsCheckedAssignment}
-use Rattle.rank_core.specs.Scope.{memory}
+use Rattle.rank_core.proofs.Prelude.{◌≡◌, map, drop, AllByRecursion, IsCheckedAssignment, program_of, assignment_of, IsMemoryInRange, IsShapedAssignment, run, memory}
 use Rattle.rank_core.proofs.step.run.Given as goal
 
 abbrev pub invariant-loop-assign : goal.invariant-loop-assign

@@ -1,6 +1,4 @@
-use Rattle.rank_defs.specs.Programs.{program_of}
-use Rattle.rank_defs.proofs.Spans.{length-within, variables-inside}
-use Rattle.rank_core.specs.Scope.{memory}
+use Rattle.rank_core.proofs.Prelude.{length-within, variables-inside, program_of, memory}
 use Rattle.rank_core.proofs.step.written_wide.Goals as goal
 
 pub number-requires-clause-inside : goal.number-requires-clause-inside

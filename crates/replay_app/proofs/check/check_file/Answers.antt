@@ -1,11 +1,5 @@
-use Rattle.std.proofs.Common.{◌∙◌, refl, sym, subst, List, ℕ}
-use Rattle.std.proofs.lemmas.Result.{err_from_is_err_and}
-use Rattle.outside_core.specs.Written.{Appended, AppendedPrefix}
-use Rattle.outside_core.proofs.WrittenLaws.{appended_nothing, prefix_of_nothing}
+use Rattle.replay_app.proofs.Prelude.{subst, sym, ℕ, List, refl, ◌∙◌, err_from_is_err_and, appended_nothing, prefix_of_nothing, Appended, AppendedPrefix, Answer, goes_on, judged_of, checked}
 use Rattle.report_core.specs.declared.fault.FaultKind.TheVariants as kind
-use Rattle.replay_app.specs.Answer.{Answer}
-use Rattle.replay_app.specs.Follows.{goes_on}
-use Rattle.replay_app.specs.Policies.{checked, judged_of}
 use Rattle.replay_app.proofs.FollowLaws.{accepted-each, refused_told}
 use Rattle.replay_app.proofs.Inputs.{policies_are_one}
 use Rattle.replay_app.proofs.AnswerLaws.{printed}

@@ -1,6 +1,5 @@
 use Rattle.report_core.specs.declared.fault.FaultKind.TheVariants as kind
-use Rattle.replay_app.specs.Answer.{refusal}
-use Rattle.replay_app.specs.Named.{command_form}
+use Rattle.replay_app.proofs.Prelude.{refusal, command_form}
 use Rattle.replay_app.specs.declared.words.Command.TheVariants.{Check, Plan, Direct}
 use Rattle.replay_app.proofs.FollowLaws.{exactly_told, known-status}
 use Rattle.replay_app.proofs.Unused.{unused}

@@ -1,5 +1,4 @@
-use Rattle.std.proofs.Common.{sym, subst, inr}
-use Rattle.replay_app.specs.Statuses.{IsStop}
+use Rattle.replay_app.proofs.Prelude.{subst, sym, inr, IsStop}
 use Rattle.replay_app.proofs.AnswerLaws.{is_stop, no_stop}
 use Rattle.replay_app.proofs.command.run.Goals as goal
 

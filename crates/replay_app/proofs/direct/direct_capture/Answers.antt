@@ -1,5 +1,4 @@
-use Rattle.std.proofs.lemmas.Result.{err_from_is_err_and}
-use Rattle.sched_run.specs.Steps.{pace_of}
+use Rattle.replay_app.proofs.Prelude.{err_from_is_err_and, pace_of}
 use Rattle.replay_app.proofs.AnswerLaws.{run_ends}
 use Rattle.replay_app.proofs.CaptureLaws.{own_told, own_cut}
 use Rattle.replay_app.proofs.direct.direct_capture.Goals as goal

@@ -1,5 +1,4 @@
-use Rattle.std.proofs.lemmas.Result.{err_from_is_err_and}
-use Rattle.sched_capture.specs.Placements.{laid_by}
+use Rattle.replay_app.proofs.Prelude.{err_from_is_err_and, laid_by}
 use Rattle.replay_app.proofs.AnswerLaws.{forward_ends}
 use Rattle.replay_app.proofs.ForwardLaws.{forward_told, forward_cut, forward_holds, forward_holds_part}
 use Rattle.replay_app.proofs.forward.forward_capture.Goals as goal

@@ -1,10 +1,4 @@
-use Rattle.std.proofs.Common.{ℕ, List, sym, subst}
-use Rattle.tree_defs.specs.Topology.{Topology}
-use Rattle.tree_core.specs.Shape.{topology}
-use Rattle.mapcheck_core.specs.GivenMaps.{IsWithinLimits, IsGivenFor, IsVerdict}
-use Rattle.mapcheck_core.specs.MapTexts.{Fits}
-use Rattle.replay_app.specs.declared.refusal.Refusal.{Refusal}
-use Rattle.replay_app.specs.Via.{IsMapRefused}
+use Rattle.replay_app.proofs.Prelude.{subst, sym, ℕ, List, IsGivenFor, IsVerdict, IsWithinLimits, Fits, topology, Topology, IsMapRefused, Refusal}
 use Rattle.replay_app.proofs.TextFaults.{map_refused, map_answer}
 use Rattle.replay_app.proofs.ViaInputs.{given_fits}
 use Rattle.replay_app.proofs.maps.map_in.Goals as goal

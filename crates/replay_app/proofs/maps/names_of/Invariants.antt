@@ -1,6 +1,4 @@
-use Rattle.std.proofs.Common.{◌≡◌, map, take}
-use Rattle.policy_defs.specs.Policy.{name_at}
-use Rattle.embed_plan.specs.Preorder.{addresses}
+use Rattle.replay_app.proofs.Prelude.{◌≡◌, map, take, addresses, name_at}
 use Rattle.replay_app.proofs.maps.names_of.Given as goal
 
 abbrev pub invariant-loop-node : goal.invariant-loop-node

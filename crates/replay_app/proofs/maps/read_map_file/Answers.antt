@@ -1,11 +1,6 @@
-use Rattle.std.proofs.Common.{sym, subst}
-use Rattle.tree_core.specs.Shape.{topology}
+use Rattle.replay_app.proofs.Prelude.{subst, sym, most_map_bytes, topology, IsRead, IsMapRefused, unread, IsTried, Refused, Refusal}
 use Rattle.mapcheck_core.specs.declared.fault.MapFault.TheVariants.{TooLong}
-use Rattle.mapcheck_core.specs.MapTexts.{most_map_bytes, too_long}
-use Rattle.replay_app.specs.declared.refusal.Refusal.{Refusal}
-use Rattle.replay_app.specs.declared.refusal.Read.TheVariants.{Refused}
-use Rattle.replay_app.specs.Follows.{IsRead}
-use Rattle.replay_app.specs.Via.{IsMapRefused, IsTried, unread}
+use Rattle.mapcheck_core.specs.MapTexts.{too_long}
 use Rattle.replay_app.proofs.LoadLaws.{unloaded}
 use Rattle.replay_app.proofs.maps.read_map_file.Goals as goal
 

@@ -1,6 +1,4 @@
-use Rattle.std.proofs.Common.{sym, subst}
-use Rattle.replay_app.specs.declared.refusal.Refusal.{Refusal}
-use Rattle.replay_app.specs.Policies.{entries_in, IsPolicyRefused, statements_refused, text_refused}
+use Rattle.replay_app.proofs.Prelude.{subst, sym, IsPolicyRefused, statements_refused, text_refused, entries_in, Refusal}
 use Rattle.replay_app.proofs.policies.judge.Goals as goal
 
 pub returns-in-Ok : goal.returns-in-Ok

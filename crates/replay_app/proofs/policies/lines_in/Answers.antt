@@ -1,7 +1,6 @@
-use Rattle.std.proofs.Common.{sym, subst}
+use Rattle.replay_app.proofs.Prelude.{subst, sym, IsTextRefused, Refusal}
 use Rattle.policy_text.proofs.TextSteps.{cause_told}
-use Rattle.replay_app.specs.declared.refusal.Refusal.{Refusal}
-use Rattle.replay_app.specs.Policies.{IsTextRefused, at_fault}
+use Rattle.replay_app.specs.Policies.{at_fault}
 use Rattle.replay_app.proofs.policies.lines_in.Goals as goal
 
 pub returns-in_ok-told_of-in-Err : goal.returns-in_ok-told_of-in-Err

@@ -1,9 +1,6 @@
-use Rattle.std.proofs.Common.{sym, subst}
-use Rattle.policy_text_defs.specs.Ranges.{most_text}
+use Rattle.replay_app.proofs.Prelude.{subst, sym, most_text, IsTextRefused, IsTextRead, Refused, Refusal}
 use Rattle.policy_text.specs.declared.fault.TextFault.TheVariants.{TooLong}
-use Rattle.replay_app.specs.declared.refusal.Refusal.{Refusal}
-use Rattle.replay_app.specs.declared.refusal.Read.TheVariants.{Refused}
-use Rattle.replay_app.specs.Policies.{IsTextRead, IsTextRefused, at_fault}
+use Rattle.replay_app.specs.Policies.{at_fault}
 use Rattle.replay_app.proofs.LoadLaws.{unloaded}
 use Rattle.replay_app.proofs.policies.read_lines.Goals as goal
 

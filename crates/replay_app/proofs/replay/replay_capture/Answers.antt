@@ -1,7 +1,4 @@
-use Rattle.std.proofs.lemmas.Result.{err_from_is_err_and}
-use Rattle.sched_run.specs.Steps.{pace_of}
-use Rattle.sched_capture.specs.Placements.{laid_by}
-use Rattle.tap_core.specs.Watching.{Sight, sight_of}
+use Rattle.replay_app.proofs.Prelude.{err_from_is_err_and, laid_by, pace_of, Sight, sight_of}
 use Rattle.replay_app.proofs.AnswerLaws.{pace_ends}
 use Rattle.replay_app.proofs.CaptureLaws.{whole_told, lines_cut, report_cut, whole_left, lines_left, report_left}
 use Rattle.replay_app.proofs.replay.replay_capture.Goals as goal

@@ -1,6 +1,4 @@
-use Rattle.std.proofs.Common.{arith}
-use Rattle.sched_defs.specs.SendTime.{plain_rate}
-use Rattle.sched_capture.specs.Placements.{laid_by}
+use Rattle.replay_app.proofs.Prelude.{arith, laid_by, plain_rate}
 use Rattle.replay_app.proofs.ForwardLaws.{forward_left}
 use Rattle.replay_app.proofs.replay.replay_paced.Goals as goal
 

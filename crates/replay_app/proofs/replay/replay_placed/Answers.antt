@@ -1,11 +1,5 @@
-use Rattle.std.proofs.Common.{refl, ap, subst, ◌∙◌}
-use Rattle.std.specs.Prelude.{Err}
-use Rattle.tree_defs.specs.Tree.{SameShape}
-use Rattle.tree_defs.specs.Topology.{Topology, topology_of, complete}
-use Rattle.embed_defs.specs.Embedding.{IsEmbedding, HasEmbedding}
-use Rattle.embed_defs.specs.Images.{image_map}
+use Rattle.replay_app.proofs.Prelude.{subst, refl, ap, ◌∙◌, Err, HasEmbedding, IsEmbedding, image_map, topology_of, Topology, complete, SameShape, pacing_form}
 use Rattle.report_core.specs.declared.fault.FaultKind.TheVariants as kind
-use Rattle.replay_app.specs.Named.{pacing_form}
 use Rattle.replay_app.proofs.FollowLaws.{accepted_told, accepted_done, refused_told, refused_left}
 use Rattle.replay_app.proofs.Inputs.{rooms_are_one, placement}
 use Rattle.replay_app.proofs.AnswerLaws.{paced_no_refusal}

@@ -1,7 +1,5 @@
-use Rattle.std.proofs.Common.{◌∷◌}
+use Rattle.replay_app.proofs.Prelude.{◌∷◌, pacing_form, pacing_words}
 use Rattle.report_core.specs.declared.fault.FaultKind.TheVariants as kind
-use Rattle.replay_app.specs.Named.{pacing_form}
-use Rattle.replay_app.specs.Words.{pacing_words}
 use Rattle.replay_app.proofs.FollowLaws.{accepted_told, refused_told, accepted_done, refused_left}
 use Rattle.replay_app.proofs.Inputs.{targets_are_one}
 use Rattle.replay_app.proofs.AnswerLaws.{told-later}

@@ -1,9 +1,6 @@
-use Rattle.std.proofs.Common.{sym, subst}
-use Rattle.events_core.specs.Script.{most_bytes, IsScript}
-use Rattle.replay_app.specs.declared.refusal.Refusal.{Refusal}
-use Rattle.replay_app.specs.declared.refusal.Read.TheVariants.{Refused}
-use Rattle.replay_app.specs.Follows.{IsRead}
-use Rattle.replay_app.specs.Scripts.{IsScriptRefused, too_long}
+use Rattle.replay_app.proofs.Prelude.{subst, sym, IsScript, IsRead, IsScriptRefused, Refused, Refusal}
+use Rattle.events_core.specs.Script.{most_bytes}
+use Rattle.replay_app.specs.Scripts.{too_long}
 use Rattle.replay_app.proofs.LoadLaws.{unloaded}
 use Rattle.replay_app.proofs.scripts.read_script.Goals as goal
 

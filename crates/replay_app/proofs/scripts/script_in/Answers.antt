@@ -1,6 +1,4 @@
-use Rattle.std.proofs.Common.{sym, subst}
-use Rattle.replay_app.specs.declared.refusal.Refusal.{Refusal}
-use Rattle.replay_app.specs.Scripts.{IsScriptRefused}
+use Rattle.replay_app.proofs.Prelude.{subst, sym, IsScriptRefused, Refusal}
 use Rattle.replay_app.proofs.ScriptFaults.{refused_for}
 use Rattle.replay_app.proofs.scripts.script_in.Goals as goal
 

@@ -1,6 +1,4 @@
-use Rattle.std.proofs.Common.{ap, ◌∙◌}
-use Rattle.std.specs.Prelude.{Err}
-use Rattle.tree_defs.specs.Topology.{topology_of}
+use Rattle.replay_app.proofs.Prelude.{ap, ◌∙◌, Err, topology_of}
 use Rattle.replay_app.proofs.Inputs as inputs
 use Rattle.replay_app.proofs.OfficeRoom.{office-has-room}
 use Rattle.replay_app.proofs.soak.placement.Goals as goal

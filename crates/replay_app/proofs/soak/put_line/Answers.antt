@@ -1,6 +1,4 @@
-use Rattle.std.specs.Prelude.{◌++◌, ◌∷◌, [], codes, ℕ, List}
-use Rattle.std.proofs.lemmas.Result.{on_ok_weaker}
-use Rattle.replay_app.specs.Soak.{counted}
+use Rattle.replay_app.proofs.Prelude.{ℕ, List, [], ◌∷◌, ◌++◌, on_ok_weaker, codes, counted}
 use Rattle.replay_app.proofs.SoakLaws.{grown, when_ok}
 use Rattle.replay_app.proofs.soak.put_line.Goals as goal
 

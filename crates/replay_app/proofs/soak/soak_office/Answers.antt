@@ -1,7 +1,4 @@
-use Rattle.std.proofs.Common.{refl, arith}
-use Rattle.std.proofs.lemmas.Result.{err_from_is_err_and}
-use Rattle.policy_core.specs.Office.{IsOffice}
-use Rattle.policy_core.proofs.OfficeTree.{offices-alike}
+use Rattle.replay_app.proofs.Prelude.{refl, arith, err_from_is_err_and, offices-alike, IsOffice}
 use Rattle.replay_app.proofs.SoakLaws.{soaked_none, soaked_whole, soaked_part, left_whole, left_part, left_written}
 use Rattle.replay_app.proofs.soak.soak_office.Goals as goal
 

@@ -1,9 +1,5 @@
-use Rattle.std.proofs.Common.{refl, sym, subst}
+use Rattle.replay_app.proofs.Prelude.{subst, sym, refl, IsRead, IsTargetOf, IsTargetRefused, Refused, Refusal}
 use Rattle.target_core.specs.TargetText.{most_bytes, too_long}
-use Rattle.replay_app.specs.declared.refusal.Refusal.{Refusal}
-use Rattle.replay_app.specs.declared.refusal.Read.TheVariants.{Refused}
-use Rattle.replay_app.specs.Follows.{IsRead}
-use Rattle.replay_app.specs.Targets.{IsTargetRefused, IsTargetOf}
 use Rattle.replay_app.proofs.LoadLaws.{unloaded}
 use Rattle.replay_app.proofs.targets.read_target_file.Goals as goal
 

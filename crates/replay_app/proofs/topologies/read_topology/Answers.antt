@@ -1,11 +1,7 @@
-use Rattle.std.proofs.Common.{sym, subst}
-use Rattle.tree_core.specs.Shape.{topology}
+use Rattle.replay_app.proofs.Prelude.{subst, sym, IsTreeText, most_tree_bytes, topology, IsRead, IsTreeRefused, Refused, Refusal}
 use Rattle.mapcheck_core.specs.declared.tree_fault.TreeFault.TheVariants.{TooLong}
-use Rattle.mapcheck_core.specs.TreeTexts.{most_tree_bytes, IsTreeText, too_long}
-use Rattle.replay_app.specs.declared.refusal.Refusal.{Refusal}
-use Rattle.replay_app.specs.declared.refusal.Read.TheVariants.{Refused}
-use Rattle.replay_app.specs.Follows.{IsRead}
-use Rattle.replay_app.specs.Via.{IsTreeRefused, at_fault}
+use Rattle.mapcheck_core.specs.TreeTexts.{too_long}
+use Rattle.replay_app.specs.Via.{at_fault}
 use Rattle.replay_app.proofs.LoadLaws.{unloaded}
 use Rattle.replay_app.proofs.topologies.read_topology.Goals as goal
 

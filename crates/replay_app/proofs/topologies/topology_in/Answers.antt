@@ -1,6 +1,4 @@
-use Rattle.std.proofs.Common.{sym, subst}
-use Rattle.replay_app.specs.declared.refusal.Refusal.{Refusal}
-use Rattle.replay_app.specs.Via.{IsTreeRefused}
+use Rattle.replay_app.proofs.Prelude.{subst, sym, IsTreeRefused, Refusal}
 use Rattle.replay_app.proofs.TextFaults.{tree_refused}
 use Rattle.replay_app.proofs.topologies.topology_in.Goals as goal
 

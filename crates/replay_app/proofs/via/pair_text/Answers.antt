@@ -1,6 +1,4 @@
-use Rattle.std.proofs.Common.{ℕ, Vec, ◌++◌, ap, sym, ◌∙◌}
-use Rattle.std.specs.declared.alloc.Global.{Global}
-use Rattle.replay_app.specs.Via.{names_of, pair_line, pair_text}
+use Rattle.replay_app.proofs.Prelude.{sym, ℕ, ap, ◌∙◌, ◌++◌, Vec, Global, names_of, pair_text, pair_line}
 use Rattle.replay_app.proofs.NodeNames.{name_in}
 use Rattle.replay_app.proofs.ViaLaws.{no_pair}
 use Rattle.replay_app.proofs.via.pair_text.Goals as goal

@@ -1,6 +1,5 @@
-use Rattle.std.proofs.Common.{◌∷◌, []}
+use Rattle.replay_app.proofs.Prelude.{[], ◌∷◌, judged_of}
 use Rattle.report_core.specs.declared.fault.FaultKind.TheVariants as kind
-use Rattle.replay_app.specs.Policies.{judged_of}
 use Rattle.replay_app.proofs.FollowLaws.{accepted_told, refused_told, accepted_done}
 use Rattle.replay_app.proofs.Inputs.{policies_are_one}
 use Rattle.replay_app.proofs.AnswerLaws.{told-later}

@@ -1,9 +1,5 @@
-use Rattle.std.proofs.Common.{◌∷◌, [], subst}
+use Rattle.replay_app.proofs.Prelude.{subst, [], ◌∷◌, IsVerdict, topology, topology_of, names_of, HasVerdict}
 use Rattle.report_core.specs.declared.fault.FaultKind.TheVariants as kind
-use Rattle.tree_defs.specs.Topology.{topology_of}
-use Rattle.tree_core.specs.Shape.{topology}
-use Rattle.mapcheck_core.specs.GivenMaps.{IsVerdict}
-use Rattle.replay_app.specs.Via.{HasVerdict, names_of}
 use Rattle.replay_app.proofs.FollowLaws.{accepted_told, accepted_done, refused_told, known-status}
 use Rattle.replay_app.proofs.AnswerLaws.{told-later}
 use Rattle.replay_app.proofs.ViaInputs.{maps_are_one, nodes_named}

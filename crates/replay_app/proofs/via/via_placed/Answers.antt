@@ -1,12 +1,5 @@
-use Rattle.std.proofs.Common.{refl, sym, ap, subst, ◌∙◌}
-use Rattle.std.specs.Prelude.{Err}
-use Rattle.tree_defs.specs.Topology.{Topology, topology_of, complete}
-use Rattle.tree_core.specs.Shape.{topology}
-use Rattle.embed_defs.specs.Embedding.{IsEmbedding}
-use Rattle.embed_defs.specs.Images.{image_map}
+use Rattle.replay_app.proofs.Prelude.{subst, sym, refl, ap, ◌∙◌, Err, IsEmbedding, image_map, IsGivenFor, IsWithinLimits, image_of, topology, topology_of, Topology, complete, IsPlacement}
 use Rattle.mapcheck_core.proofs.ComposedImages.{placed-topology}
-use Rattle.mapcheck_core.specs.GivenMaps.{IsWithinLimits, IsGivenFor, image_of}
-use Rattle.replay_app.specs.Targets.{IsPlacement}
 use Rattle.report_core.specs.declared.fault.FaultKind.TheVariants as kind
 use Rattle.replay_app.proofs.FollowLaws.{accepted_told, accepted_done, refused_told}
 use Rattle.replay_app.proofs.ViaInputs.{carried_are_one, carried_by}

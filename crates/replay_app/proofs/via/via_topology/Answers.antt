@@ -1,5 +1,4 @@
-use Rattle.std.proofs.Common.{◌∷◌, []}
-use Rattle.tree_core.specs.Shape.{topology}
+use Rattle.replay_app.proofs.Prelude.{[], ◌∷◌, topology}
 use Rattle.report_core.specs.declared.fault.FaultKind.TheVariants as kind
 use Rattle.replay_app.proofs.FollowLaws.{accepted_told, refused_told, accepted_done}
 use Rattle.replay_app.proofs.AnswerLaws.{told-later}

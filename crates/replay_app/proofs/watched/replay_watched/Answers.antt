@@ -1,8 +1,4 @@
-use Rattle.std.proofs.Common.{◌≡◌, refl, inl, inr}
-use Rattle.tap_core.specs.Lists.{entries, named_entries}
-use Rattle.tap_core.specs.Watching.{Sight, sight_of}
-use Rattle.replay_app.specs.Words.{link, forward}
-use Rattle.replay_app.specs.Stages.{watching_in}
+use Rattle.replay_app.proofs.Prelude.{◌≡◌, refl, inr, inl, named_entries, entries, Sight, sight_of, watching_in, forward, link}
 use Rattle.replay_app.proofs.TapLaws.{script_left, link_left}
 use Rattle.replay_app.proofs.watched.replay_watched.Goals as goal
 

@@ -1,8 +1,6 @@
-use Rattle.std.proofs.lemmas.Result.{err_from_is_err_and}
-use Rattle.outside_core.proofs.WrittenLaws.{appended_in_turn}
+use Rattle.replay_app.proofs.Prelude.{err_from_is_err_and, appended_in_turn, cut_end, cut_part, whole_end}
 use Rattle.outside_core.proofs.KeptLaws.{Begins-trans}
 use Rattle.report_core.proofs.TextLaws.{IsCut-append, IsCut-longer}
-use Rattle.report_core.proofs.WholeTexts.{cut_part, cut_end, whole_end}
 use Rattle.replay_app.proofs.writing.refuse_behind.Goals as goal
 
 pub returns-in_err-piece-clause-part : goal.returns-in_err-piece-clause-part

@@ -1,5 +1,4 @@
-use Rattle.std.proofs.lemmas.Result.{err_from_is_err_and}
-use Rattle.report_core.proofs.WholeTexts.{cut_part, cut_end, whole_end}
+use Rattle.replay_app.proofs.Prelude.{err_from_is_err_and, cut_end, cut_part, whole_end}
 use Rattle.replay_app.proofs.writing.write.Goals as goal
 
 pub returns-in_err-piece-clause-part : goal.returns-in_err-piece-clause-part

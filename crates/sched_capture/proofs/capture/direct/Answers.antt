@@ -1,6 +1,5 @@
-use Rattle.std.proofs.lemmas.Result.{IfOk-weaker}
+use Rattle.sched_capture.proofs.Prelude.{IfOk-weaker, pace_of, CanEndSo, IsNoPastLast}
 use Rattle.sched_capture.specs.CapturePackets.{left_of}
-use Rattle.sched_run.specs.Steps.{pace_of, IsNoPastLast, CanEndSo}
 use Rattle.sched_capture.proofs.FileRuns.{can_end, report_of_file, outside_after}
 use Rattle.sched_capture.proofs.Refusals.{refused_report}
 use Rattle.sched_capture.proofs.capture.direct.Goals as goal

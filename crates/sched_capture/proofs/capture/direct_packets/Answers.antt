@@ -1,9 +1,5 @@
-use Rattle.std.proofs.Common.{arith, rules}
-use Rattle.std.proofs.lemmas.Result.{err_from_is_err_and}
-use Rattle.outside_core.proofs.KeptLaws.{sink-same}
+use Rattle.sched_capture.proofs.Prelude.{arith, rules, err_from_is_err_and, sink-same, pace_of, answer_of}
 use Rattle.sched_capture.specs.CapturePackets.{left_of}
-use Rattle.sched_run.specs.Steps.{pace_of}
-use Rattle.sched_capture.specs.Answers.{answer_of}
 use Rattle.sched_capture.proofs.Refusals.{unreported}
 use Rattle.sched_capture.proofs.capture.direct_packets.Goals as goal
 

@@ -1,7 +1,5 @@
-use Rattle.std.proofs.lemmas.Result.{err_from_is_err_and}
+use Rattle.sched_capture.proofs.Prelude.{err_from_is_err_and, pace_of, answer_of}
 use Rattle.sched_capture.specs.CapturePackets.{left_of}
-use Rattle.sched_run.specs.Steps.{pace_of}
-use Rattle.sched_capture.specs.Answers.{answer_of}
 use Rattle.sched_capture.proofs.FromStart.{stand_at_start, reported, state_told, amid_told, watched_told, unmoved}
 use Rattle.sched_capture.proofs.Refusals.{unreported}
 use Rattle.sched_capture.proofs.course.run_over.Goals as goal

@@ -1,5 +1,4 @@
-use Rattle.sched_capture.specs.SingleLinkType.{one_link_in}
-use Rattle.sched_capture.specs.Answers.{IsRefusalPart}
+use Rattle.sched_capture.proofs.Prelude.{IsRefusalPart, one_link_in}
 use Rattle.sched_capture.proofs.ForwardRefusals.{of_file, part_of_file}
 use Rattle.sched_capture.proofs.departures.begin_one_link.Goals as goal
 

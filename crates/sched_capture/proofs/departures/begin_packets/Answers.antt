@@ -1,6 +1,4 @@
-use Rattle.std.proofs.lemmas.Result.{on_err_weaker}
-use Rattle.outside_core.proofs.KeptLaws.{sink-same}
-use Rattle.sched_capture.specs.SingleLinkType.{one_link_in}
+use Rattle.sched_capture.proofs.Prelude.{on_err_weaker, sink-same, one_link_in}
 use Rattle.sched_capture.proofs.Refusals.{told_part, none_part}
 use Rattle.sched_capture.proofs.departures.begin_packets.Goals as goal
 

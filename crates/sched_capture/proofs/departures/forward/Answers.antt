@@ -1,9 +1,5 @@
-use Rattle.std.proofs.Common.{◌≡◌}
-use Rattle.std.proofs.lemmas.Result.{IfOk-weaker, on_ok_weaker, on_err_weaker}
-use Rattle.sched_capture.specs.SingleLinkType.{left_of, captures_of, link_of}
-use Rattle.sched_embedded.specs.Fabrics.{Leaves, LeavesPart, run_of}
-use Rattle.sched_capture.specs.Placements.{laid_by}
-use Rattle.outside_core.specs.Written.{Appended, AppendedPrefix}
+use Rattle.sched_capture.proofs.Prelude.{◌≡◌, on_err_weaker, on_ok_weaker, IfOk-weaker, Appended, AppendedPrefix, LeavesPart, Leaves, run_of, laid_by, captures_of, link_of}
+use Rattle.sched_capture.specs.SingleLinkType.{left_of}
 use Rattle.sched_capture.proofs.ForwardFiles.{in_told}
 use Rattle.sched_capture.proofs.ForwardRefusals.{part_of_answer}
 use Rattle.sched_capture.proofs.departures.forward.Goals as goal

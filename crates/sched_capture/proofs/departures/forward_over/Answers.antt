@@ -1,11 +1,7 @@
-use Rattle.std.proofs.Common.{ap, ◌∙◌}
-use Rattle.std.proofs.lemmas.Option.{IfSome_then}
-use Rattle.std.proofs.lemmas.Result.{err_from_is_err_and}
-use Rattle.report_core.proofs.WholeTexts.{cut_part, cut_end, whole_end}
-use Rattle.sched_capture.specs.SingleLinkType.{left_of, captures_of, there}
+use Rattle.sched_capture.proofs.Prelude.{ap, ◌∙◌, IfSome_then, err_from_is_err_and, cut_part, cut_end, whole_end, forward_events, forward_ending, captures_of, there}
+use Rattle.sched_capture.specs.SingleLinkType.{left_of}
 use Rattle.sched_run.proofs.JoinedEvents.{made_all}
 use Rattle.sched_capture.specs.JoinedRecords.{records_heard}
-use Rattle.sched_capture.specs.Forwards.{forward_ending, forward_events}
 use Rattle.sched_capture.proofs.FromStart.{stand_at_start}
 use Rattle.sched_capture.proofs.ForwardRuns.{stops, forwards}
 use Rattle.sched_capture.proofs.departures.forward_over.Goals as goal

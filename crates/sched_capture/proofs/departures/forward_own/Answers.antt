@@ -1,7 +1,5 @@
-use Rattle.std.proofs.Common.{◌≡◌}
-use Rattle.std.proofs.lemmas.Result.{IfOk-weaker, on_ok_weaker, on_err_weaker}
-use Rattle.sched_capture.specs.SingleLinkType.{left_of, captures_of, link_of}
-use Rattle.outside_core.specs.Written.{Appended, AppendedPrefix}
+use Rattle.sched_capture.proofs.Prelude.{◌≡◌, on_err_weaker, on_ok_weaker, IfOk-weaker, Appended, AppendedPrefix, captures_of, link_of}
+use Rattle.sched_capture.specs.SingleLinkType.{left_of}
 use Rattle.sched_capture.proofs.ForwardFiles.{in_told}
 use Rattle.sched_capture.proofs.ForwardRefusals.{part_of_answer}
 use Rattle.sched_capture.proofs.departures.forward_own.Goals as goal

@@ -1,11 +1,5 @@
-use Rattle.std.proofs.Common.{Some, inr, arith, rules}
-use Rattle.std.proofs.lemmas.Option.{IfSome_then}
-use Rattle.std.proofs.lemmas.Result.{on_ok_weaker, on_err_weaker}
-use Rattle.outside_core.proofs.KeptLaws.{sink-same}
-use Rattle.sched_capture.specs.SingleLinkType.{left_of, link_of, captures_of}
-use Rattle.sched_embedded.specs.Fabrics.{LeavesPart}
-use Rattle.sched_embedded.specs.Laid.{Laid}
-use Rattle.sched_capture.specs.Forwards.{forward_through}
+use Rattle.sched_capture.proofs.Prelude.{Some, arith, inr, rules, IfSome_then, on_err_weaker, on_ok_weaker, sink-same, LeavesPart, Laid, forward_through, captures_of, link_of}
+use Rattle.sched_capture.specs.SingleLinkType.{left_of}
 use Rattle.sched_capture.proofs.FabricRuns.{holds_after, left_before}
 use Rattle.sched_capture.proofs.ForwardFiles.{none_sent}
 use Rattle.sched_capture.proofs.departures.forward_records.Goals as goal

@@ -1,9 +1,7 @@
-use Rattle.std.proofs.lemmas.Result.{IfOk-weaker}
+use Rattle.sched_capture.proofs.Prelude.{IfOk-weaker, Laid, pace_of, CanEndSo, IsNoPastLast}
 use Rattle.sched_capture.specs.CapturePackets.{left_of}
-use Rattle.sched_run.specs.Steps.{pace_of, IsNoPastLast, CanEndSo}
 use Rattle.sched_capture.proofs.FileRuns.{can_end, report_of_file, watched_of_file, unwatched, outside_after}
 use Rattle.sched_capture.proofs.Refusals.{refused_report}
-use Rattle.sched_embedded.specs.Laid.{Laid}
 use Rattle.sched_capture.proofs.FabricRuns.{left_by, left_amid}
 use Rattle.sched_capture.proofs.fabric.replay.Goals as goal
 

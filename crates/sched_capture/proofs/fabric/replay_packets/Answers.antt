@@ -1,13 +1,5 @@
-use Rattle.std.proofs.Common.{Some, inr, arith, rules}
-use Rattle.std.proofs.lemmas.Option.{IfSome_then}
-use Rattle.std.proofs.lemmas.Result.{on_ok_weaker, on_err_weaker, err_from_is_err_and}
-use Rattle.outside_core.proofs.KeptLaws.{sink-same}
+use Rattle.sched_capture.proofs.Prelude.{Some, arith, inr, rules, IfSome_then, on_err_weaker, on_ok_weaker, err_from_is_err_and, sink-same, LeavesPart, Laid, pace_of, answer_of, paced_through}
 use Rattle.sched_capture.specs.CapturePackets.{left_of}
-use Rattle.sched_run.specs.Steps.{pace_of}
-use Rattle.sched_embedded.specs.Fabrics.{LeavesPart}
-use Rattle.sched_embedded.specs.Laid.{Laid}
-use Rattle.sched_capture.specs.Answers.{answer_of}
-use Rattle.sched_capture.specs.Placements.{paced_through}
 use Rattle.sched_capture.proofs.FabricRuns.{holds_after, left_before}
 use Rattle.sched_capture.proofs.Refusals.{unreported}
 use Rattle.sched_capture.proofs.fabric.replay_packets.Goals as goal

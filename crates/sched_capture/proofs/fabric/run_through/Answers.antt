@@ -1,8 +1,5 @@
-use Rattle.std.proofs.Common.{[], List, refl, sym, arith, inr}
-use Rattle.sched_defs.specs.Events.{Event}
-use Rattle.sched_embedded.specs.Laid.{Laid}
+use Rattle.sched_capture.proofs.Prelude.{List, arith, sym, [], refl, inr, Event, Laid, on_err_given}
 use Rattle.sched_run.proofs.JoinedEvents.{raised_nothing}
-use Rattle.sched_run.proofs.StepLaws.{on_err_given}
 use Rattle.sched_capture.proofs.FabricRuns.{holds_after}
 use Rattle.sched_capture.proofs.fabric.run_through.Goals as goal
 

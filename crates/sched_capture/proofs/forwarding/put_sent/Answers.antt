@@ -1,8 +1,4 @@
-use Rattle.std.proofs.Common.{subst}
-use Rattle.std.proofs.lemmas.Result.{err_from_is_err_and, on_ok_weaker, on_err_weaker}
-use Rattle.outside_core.specs.Written.{Appended}
-use Rattle.outside_core.proofs.WrittenLaws.{appended_in_turn}
-use Rattle.report_core.proofs.TextLaws.{IsCut-append, IsCut-longer}
+use Rattle.sched_capture.proofs.Prelude.{subst, on_err_weaker, on_ok_weaker, err_from_is_err_and, appended_in_turn, Appended, IsCut-longer, IsCut-append}
 use Rattle.sched_capture.proofs.forwarding.put_sent.Goals as goal
 
 pub returns-in_err-piece-clause-cut : goal.returns-in_err-piece-clause-cut

@@ -1,6 +1,5 @@
-use Rattle.std.proofs.Common.{ap}
+use Rattle.sched_capture.proofs.Prelude.{ap, answer_over}
 use Rattle.pcapng_defs.proofs.AlikeFiles.{alike_files}
-use Rattle.sched_capture.specs.Answers.{answer_over}
 use Rattle.sched_capture.proofs.laws.alike_files_have_equal_answers.Goals as goal
 
 pub returns : goal.returns

@@ -1,8 +1,4 @@
-use Rattle.std.proofs.Common.{[], refl, ap, ◌∙◌, ℕ}
-use Rattle.std.proofs.lemmas.Result.{err_from_is_err_and}
-use Rattle.sched_defs.specs.SourceState.{start}
-use Rattle.sched_defs.specs.Events.{outcomes}
-use Rattle.sched_run.specs.Load.{load_run, sum_of}
+use Rattle.sched_capture.proofs.Prelude.{ℕ, ap, ◌∙◌, [], refl, err_from_is_err_and, outcomes, start, load_run, sum_of}
 use Rattle.sched_capture.proofs.FromStart.{stand_at_start}
 use Rattle.sched_capture.proofs.LoadRuns.{made_from_start, stopped_from_start}
 use Rattle.sched_capture.proofs.load.count_load.Goals as goal

@@ -1,10 +1,4 @@
-use Rattle.std.proofs.Common.{inr}
-use Rattle.std.proofs.lemmas.Result.{on_ok_weaker, on_err_weaker}
-use Rattle.outside_core.proofs.KeptLaws.{sink-same}
-use Rattle.sched_defs.specs.SourceState.{start}
-use Rattle.sched_embedded.specs.Laid.{Laid}
-use Rattle.sched_run.specs.Load.{load_run}
-use Rattle.sched_run.proofs.StepLaws.{on_err_given}
+use Rattle.sched_capture.proofs.Prelude.{inr, on_err_weaker, on_ok_weaker, sink-same, start, Laid, on_err_given, load_run}
 use Rattle.sched_capture.proofs.FabricRuns.{holds_after}
 use Rattle.sched_capture.proofs.load.soak.Goals as goal
 

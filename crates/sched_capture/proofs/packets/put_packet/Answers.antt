@@ -1,5 +1,4 @@
-use Rattle.std.proofs.Common.{arith}
-use Rattle.packet_core.specs.Classifier.{policy_of}
+use Rattle.sched_capture.proofs.Prelude.{arith, policy_of}
 use Rattle.sched_capture.proofs.RecordPackets.{packet-is}
 use Rattle.sched_capture.proofs.packets.put_packet.Goals as goal
 

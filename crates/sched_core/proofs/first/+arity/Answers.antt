@@ -1,7 +1,5 @@
-use Rattle.std.proofs.Common.{rules, ◌≡◌, ◌∙◌, ◌<◌, arith, length, get_or}
-use Rattle.tree_defs.specs.Tree.{inner}
+use Rattle.sched_core.proofs.Prelude.{arith, ◌≡◌, ◌∙◌, length, ◌<◌, get_or, rules, topology, inner}
 use Rattle.tree_core.proofs.NewTrees.{topology_inner}
-use Rattle.tree_core.specs.Shape.{topology}
 use Rattle.sched_core.proofs.ChildCounts.{shapes, digit-within, part-there, arity-below, arity-here}
 use Rattle.sched_core.proofs.first.+arity.Goals as goal
 

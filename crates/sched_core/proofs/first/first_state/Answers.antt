@@ -1,6 +1,4 @@
-use Rattle.std.proofs.Common.{◌<◌, ◌^◌, ◌∙◌, sym, arith}
-use Rattle.policy_core.specs.Numbering.{address_at}
-use Rattle.sched_core.specs.Kept.{part_at}
+use Rattle.sched_core.proofs.Prelude.{arith, ◌∙◌, sym, ◌<◌, ◌^◌, address_at, part_at}
 use Rattle.sched_core.proofs.FirstStates.{program-of, shape-has, arity-is, fits, inner-station, leaf-station, first-values}
 use Rattle.sched_core.proofs.first.first_state.Goals as goal
 

@@ -1,5 +1,4 @@
-use Rattle.std.proofs.Common.{◌≡◌, subst, arith}
-use Rattle.tree_defs.specs.Tree.{nodes}
+use Rattle.sched_core.proofs.Prelude.{arith, ◌≡◌, subst, nodes}
 use Rattle.sched_core.proofs.FirstStates.{AreFirst, first-more, first-stations, first-have_values}
 use Rattle.sched_core.proofs.first.first_states.Goals as goal
 

@@ -1,9 +1,5 @@
-use Rattle.std.proofs.Common.{sym, subst, get_or}
-use Rattle.tree_defs.specs.Tree.{LeadsToLeaf}
+use Rattle.sched_core.proofs.Prelude.{sym, subst, get_or, address_at, class_in, LeadsToLeaf, AreWaypoints}
 use Rattle.policy_core.specs.declared.parts.Class.{Class}
-use Rattle.policy_core.specs.Numbering.{address_at}
-use Rattle.policy_core.specs.Parts.{class_in}
-use Rattle.sched_core.specs.Waypoints.{AreWaypoints}
 use Rattle.sched_core.proofs.WaypointsMade.{class-leads, ways-more}
 use Rattle.sched_core.proofs.path_node.all_waypoints.Goals as goal
 

@@ -1,6 +1,5 @@
-use Rattle.std.proofs.Common.{◌≡◌, length, ap, arith}
+use Rattle.sched_core.proofs.Prelude.{arith, ◌≡◌, ap, length, class_in}
 use Rattle.policy_defs.specs.Policy.{Class}
-use Rattle.policy_core.specs.Parts.{class_in}
 use Rattle.sched_core.proofs.WaypointsMade.{waypoints-begun, waypoints-more, waypoints-whole, root-number, IsReached, reached, node-within, waypoint-made, last-marks, child-there, child-number, child-marks}
 use Rattle.sched_core.proofs.path_node.waypoints_of.Goals as goal
 

@@ -1,6 +1,4 @@
-use Rattle.std.proofs.Common.{◌≡◌, take}
-use Rattle.policy_defs.specs.Numbers.{number_at}
-use Rattle.policy_core.specs.Parts.{class_in}
+use Rattle.sched_core.proofs.Prelude.{◌≡◌, take, class_in, number_at}
 use Rattle.sched_core.proofs.WaypointsMade.{HaveStops}
 use Rattle.sched_core.proofs.path_node.waypoints_of.Given as goal
 

@@ -1,5 +1,4 @@
-use Rattle.std.proofs.Common.{◌≡◌, ◌<◌, ℕ, length, refl, ap, subst, arith}
-use Rattle.sched_core.specs.Ways.{class_for}
+use Rattle.sched_core.proofs.Prelude.{arith, ◌≡◌, ap, ℕ, length, subst, ◌<◌, refl, class_for}
 use Rattle.sched_core.proofs.StepsMade.{HavePopped, popped-more, popped-values}
 use Rattle.sched_core.proofs.walk.pop_along.Goals as goal
 

@@ -1,5 +1,4 @@
-use Rattle.sched_core.specs.Kept.{AreStations}
-use Rattle.sched_core.specs.Ways.{tree_for, ForValues, KeepsRoom}
+use Rattle.sched_core.proofs.Prelude.{AreStations, tree_for, ForValues, KeepsRoom}
 use Rattle.sched_core.proofs.StepsMade.{HavePopped}
 use Rattle.sched_core.proofs.walk.pop_along.Given as goal
 

@@ -1,7 +1,4 @@
-use Rattle.std.proofs.Common.{arith, [], ◌∷◌}
-use Rattle.std.specs.Prelude.{slice_index_or}
-use Rattle.rank_defs.specs.declared.environment.Who.TheVariants.{Child, Flow}
-use Rattle.rank_defs.specs.Programs.{program_of}
+use Rattle.sched_core.proofs.Prelude.{arith, [], ◌∷◌, slice_index_or, program_of, Child, Flow}
 use Rattle.sched_core.proofs.NodeSteps.{pop-form, IsStep, here-at, child-at, flow-at, range-here, step-here, in_range-here, room-here, popped-here, stations-here, still-room}
 use Rattle.sched_core.proofs.walk.pop_lines.Goals as goal
 use Rattle.sched_core.proofs.walk.pop_lines.Goals.{Then-level-digits, Else-level-digits}

@@ -1,8 +1,4 @@
-use Rattle.std.proofs.Common.{◌≡◌, ◌≤◌, ◌<◌, ◌+◌, ◌++◌, ◌∷◌, [], ℕ, List, length, refl, ap, sym, ◌∙◌, subst, arith, slice_index_or}
-use Rattle.std.proofs.lemmas.List.{length-append, length-take-le, take_more}
-use Rattle.tree_defs.specs.Tree.{depth}
-use Rattle.rank_defs.specs.Programs.{max_rank}
-use Rattle.sched_core.specs.Ways.{tree_for, class_for, AreLowRanks}
+use Rattle.sched_core.proofs.Prelude.{arith, ◌≡◌, ap, ◌∙◌, sym, ℕ, List, length, subst, ◌<◌, [], refl, ◌∷◌, ◌+◌, ◌≤◌, ◌++◌, length-append, take_more, length-take-le, slice_index_or, max_rank, depth, tree_for, class_for, AreLowRanks}
 use Rattle.sched_core.proofs.ClassLeaves.{leaf-depth}
 use Rattle.sched_core.proofs.WayVisits.{all-more}
 use Rattle.sched_core.proofs.StepsMade.{HavePushed, pushed-begun, pushed-more, pushed-ranks, pushed-values}

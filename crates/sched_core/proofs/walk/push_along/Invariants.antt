@@ -1,6 +1,4 @@
-use Rattle.std.proofs.Common.{◌≡◌, length, take}
-use Rattle.sched_core.specs.Kept.{AreStations}
-use Rattle.sched_core.specs.Ways.{tree_for, AreLowRanks, ForValues, KeepsRoom}
+use Rattle.sched_core.proofs.Prelude.{◌≡◌, length, take, AreStations, tree_for, ForValues, KeepsRoom, AreLowRanks}
 use Rattle.sched_core.proofs.StepsMade.{HavePushed}
 use Rattle.sched_core.proofs.walk.push_along.Given as goal
 

@@ -1,10 +1,4 @@
-use Rattle.std.proofs.Common.{◌≡◌, ℕ, ◌+◌, ◌∷◌, [], List, length, Some, sym, ap, ◌∙◌, subst, arith}
-use Rattle.std.proofs.lemmas.List.{length-append, length-map}
-use Rattle.std.specs.Prelude.{slice_get}
-use Rattle.tree_defs.specs.Tree.{Address, LeadsToLeaf}
-use Rattle.embed_core.specs.declared.lifted_path.LiftedPath.{LiftedPath}
-use Rattle.embed_core.specs.Lanes.{IsLaneTo}
-use Rattle.sched_embedded.specs.Laid.{leaf_of}
+use Rattle.sched_embedded.proofs.Prelude.{sym, ℕ, ◌∙◌, ap, ◌≡◌, subst, List, arith, length, Some, [], ◌∷◌, ◌+◌, length-map, length-append, slice_get, IsLaneTo, LiftedPath, Address, LeadsToLeaf, leaf_of}
 use Rattle.sched_embedded.proofs.ClassLanes.{one_more, leaf-told, leaf-leads}
 use Rattle.sched_embedded.proofs.embedded.class_lanes.Goals as goal
 

@@ -1,8 +1,4 @@
-use Rattle.std.proofs.Common.{◌≡◌, ℕ, length, Some}
-use Rattle.std.specs.Prelude.{slice_get}
-use Rattle.embed_core.specs.declared.lifted_path.LiftedPath.{LiftedPath}
-use Rattle.embed_core.specs.Lanes.{IsLaneTo}
-use Rattle.sched_embedded.specs.Laid.{leaf_of}
+use Rattle.sched_embedded.proofs.Prelude.{ℕ, ◌≡◌, length, Some, slice_get, IsLaneTo, LiftedPath, leaf_of}
 use Rattle.sched_embedded.proofs.embedded.class_lanes.Given as goal
 
 abbrev pub invariant-loop-class : goal.invariant-loop-class

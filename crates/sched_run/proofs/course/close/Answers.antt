@@ -1,11 +1,4 @@
-use Rattle.std.proofs.Common.{List, ℕ, [], subst, append-nil}
-use Rattle.outside_core.specs.Written.{Appended}
-use Rattle.outside_core.proofs.WrittenLaws.{appended_in_turn}
-use Rattle.outside_core.specs.Text.{IsCut}
-use Rattle.report_core.specs.Gathered.{text_of}
-use Rattle.outside_core.proofs.KeptLaws.{sink-then}
-use Rattle.report_core.proofs.TextLaws.{IsCut-append}
-use Rattle.sched_run.specs.Totals.{totals_line}
+use Rattle.sched_run.proofs.Prelude.{ℕ, List, subst, [], append-nil, sink-then, appended_in_turn, IsCut, Appended, IsCut-append, text_of, totals_line}
 use Rattle.sched_run.proofs.StepLaws.{if_ok_turned, on_err_turned}
 use Rattle.sched_run.proofs.course.close.Goals as goal
 

@@ -1,7 +1,4 @@
-use Rattle.std.proofs.Common.{◌≡◌, ◌≤◌, ◌-◌, List, length}
-use Rattle.packet_defs.specs.declared.packet.Packet.{Packet}
-use Rattle.sched_defs.specs.Packets.{Came}
-use Rattle.sched_run.specs.Frames.{KeepsPackets}
+use Rattle.sched_run.proofs.Prelude.{◌≡◌, List, ◌≤◌, length, ◌-◌, Packet, Came, KeepsPackets}
 use Rattle.sched_run.proofs.course.count_unsent.Given as goal
 
 abbrev pub invariant-loop-unsent : goal.invariant-loop-unsent

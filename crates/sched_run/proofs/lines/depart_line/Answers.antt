@@ -1,9 +1,4 @@
-use Rattle.std.proofs.Common.{List, subst, append-nil, ℕ, []}
-use Rattle.std.specs.Prelude.{None}
-use Rattle.std.proofs.lemmas.Result.{on_ok_weaker, on_err_weaker}
-use Rattle.report_core.specs.Gathered.{Tells, CutsOff}
-use Rattle.sched_defs.specs.Events.{Depart}
-use Rattle.sched_run.specs.Played.{line_of}
+use Rattle.sched_run.proofs.Prelude.{ℕ, None, List, subst, [], append-nil, on_err_weaker, on_ok_weaker, CutsOff, Tells, Depart, line_of}
 use Rattle.sched_run.proofs.lines.depart_line.Goals as goal
 
 pub returns-clause-text : goal.returns-clause-text

@@ -1,9 +1,4 @@
-use Rattle.std.proofs.Common.{◌<◌, ◌≤◌, Some, None, refl, List, ℕ, length, sym, subst, ap, ◌∙◌}
-use Rattle.std.proofs.lemmas.Result.{err_from_is_err_and}
-use Rattle.tree_defs.specs.Tree.{nodes}
-use Rattle.policy_defs.specs.Policy.{Policy}
-use Rattle.packet_defs.specs.declared.packet.Departed.{Departed}
-use Rattle.sched_defs.specs.Events.{Outcome}
+use Rattle.sched_run.proofs.Prelude.{ℕ, None, ◌∙◌, refl, sym, List, subst, ap, Some, ◌≤◌, length, ◌<◌, err_from_is_err_and, Departed, Policy, Outcome, nodes}
 use Rattle.sched_run.proofs.DepartureLaws.{departs}
 use Rattle.sched_run.proofs.LineLaws.{Left, left, ranks_left, outcome_left, named_leaf}
 use Rattle.sched_run.proofs.lines.record_departure.Goals as goal

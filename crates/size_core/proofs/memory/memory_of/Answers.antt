@@ -1,8 +1,5 @@
-use Rattle.std.proofs.Common.{◌+◌, ◌-◌, ◌^◌, min, List, drop_of_length-le, ap, sym, ◌∙◌}
-use Rattle.std.specs.List.{sum_by}
+use Rattle.size_core.proofs.Prelude.{◌∙◌, sym, ap, List, ◌+◌, ◌-◌, ◌^◌, min, drop_of_length-le, sum_by, queue_bits, NodeSize}
 use Rattle.std.proofs.Math.Nat.{add-zero, min-eq_left}
-use Rattle.size_core.specs.declared.size.NodeSize.{NodeSize}
-use Rattle.size_core.specs.Memory.{queue_bits}
 use Rattle.size_core.proofs.memory.memory_of.Goals as goal
 
 pub returns : goal.returns

@@ -1,6 +1,4 @@
-use Rattle.std.proofs.Common.{◌≡◌, ◌≤◌, ◌+◌, ◌-◌, ◌^◌, min, drop}
-use Rattle.std.specs.List.{sum_by}
-use Rattle.size_core.specs.Memory.{queue_bits}
+use Rattle.size_core.proofs.Prelude.{◌≡◌, ◌+◌, ◌≤◌, ◌-◌, drop, ◌^◌, min, sum_by, queue_bits}
 use Rattle.size_core.proofs.memory.memory_of.Given as goal
 
 abbrev pub invariant-loop-node : goal.invariant-loop-node

@@ -1,8 +1,4 @@
-use Rattle.std.proofs.Common.{◌≡◌, ◌≢◌, ◌<◌, ◌+◌, ℕ, Option, Some, IfSome, List, length, get_or, set, sym, ap, ◌∙◌, subst, arith}
-use Rattle.std.proofs.lemmas.List.{length-set}
-use Rattle.std.specs.Prelude.{slice_get}
-use Rattle.policy_core.specs.Numbering.{HasAt}
-use Rattle.size_core.specs.Names.{IsServed}
+use Rattle.size_core.proofs.Prelude.{◌≡◌, ◌∙◌, ℕ, length, sym, ap, List, arith, subst, ◌+◌, ◌<◌, IfSome, Some, Option, get_or, ◌≢◌, set, length-set, slice_get, HasAt, IsServed}
 use Rattle.size_core.proofs.Lists.{each_set}
 use Rattle.size_core.proofs.NameLaws.{served-own, served-other}
 use Rattle.size_core.proofs.names.names_of.Goals as goal

@@ -1,6 +1,4 @@
-use Rattle.std.proofs.Common.{◌≡◌, ◌≤◌, ℕ, IfSome, length}
-use Rattle.std.specs.Prelude.{slice_get}
-use Rattle.size_core.specs.Names.{IsServed}
+use Rattle.size_core.proofs.Prelude.{◌≡◌, ℕ, length, ◌≤◌, IfSome, slice_get, IsServed}
 use Rattle.size_core.proofs.names.names_of.Given as goal
 
 abbrev pub invariant-loop-number : goal.invariant-loop-number

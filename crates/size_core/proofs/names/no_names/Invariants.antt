@@ -1,5 +1,4 @@
-use Rattle.std.proofs.Common.{◌≡◌, ◌≤◌, ℕ, None, IfSome, length}
-use Rattle.std.specs.Prelude.{slice_get}
+use Rattle.size_core.proofs.Prelude.{◌≡◌, ℕ, length, ◌≤◌, IfSome, None, slice_get}
 use Rattle.size_core.proofs.names.no_names.Given as goal
 
 abbrev pub invariant-loop : goal.invariant-loop

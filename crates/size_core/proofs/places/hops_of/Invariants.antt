@@ -1,7 +1,4 @@
-use Rattle.std.proofs.Common.{◌≡◌, ℕ, IfSome, length}
-use Rattle.std.specs.Prelude.{slice_get}
-use Rattle.size_core.specs.Paths.{Grows, IsHop}
-use Rattle.size_core.specs.Places.{addresses, add_prefixes}
+use Rattle.size_core.proofs.Prelude.{◌≡◌, ℕ, length, IfSome, slice_get, Grows, IsHop, addresses, add_prefixes}
 use Rattle.size_core.proofs.places.hops_of.Given as goal
 
 abbrev pub invariant-loop-depth : goal.invariant-loop-depth

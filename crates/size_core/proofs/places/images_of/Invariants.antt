@@ -1,10 +1,4 @@
-use Rattle.std.proofs.Common.{◌≡◌, ◌≤◌, ℕ, Some, [], ◌∷◌, IfSome, length}
-use Rattle.std.specs.Prelude.{slice_get}
-use Rattle.tree_defs.specs.Tree.{nodes}
-use Rattle.policy_core.specs.Numbering.{address_at}
-use Rattle.embed_defs.specs.Images.{image_map}
-use Rattle.size_core.specs.Paths.{address_in, Grows}
-use Rattle.size_core.specs.Places.{addresses, add_paths}
+use Rattle.size_core.proofs.Prelude.{◌≡◌, ℕ, length, ◌≤◌, IfSome, Some, [], ◌∷◌, slice_get, image_map, address_at, nodes, address_in, Grows, addresses, add_paths}
 use Rattle.size_core.proofs.places.images_of.Given as goal
 
 abbrev pub invariant-loop-number : goal.invariant-loop-number

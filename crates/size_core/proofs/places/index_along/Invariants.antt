@@ -1,6 +1,4 @@
-use Rattle.std.proofs.Common.{◌≡◌}
-use Rattle.size_core.specs.Paths.{Grows}
-use Rattle.size_core.specs.Places.{addresses, add_prefixes}
+use Rattle.size_core.proofs.Prelude.{◌≡◌, Grows, addresses, add_prefixes}
 use Rattle.size_core.proofs.places.index_along.Given as goal
 
 abbrev pub invariant-loop-length : goal.invariant-loop-length

@@ -1,7 +1,4 @@
-use Rattle.std.proofs.Common.{◌≡◌, Some, List, sym, ap, ◌∙◌, subst}
-use Rattle.tree_defs.specs.Tree.{Address}
-use Rattle.size_core.specs.Paths.{Keys, address_in}
-use Rattle.size_core.specs.Places.{addresses, add}
+use Rattle.size_core.proofs.Prelude.{◌≡◌, ◌∙◌, sym, ap, List, subst, Some, Address, address_in, Keys, addresses, add}
 use Rattle.size_core.proofs.PlaceLaws.{insert-adds, insert-grows}
 use Rattle.size_core.proofs.places.index_of.Goals as goal
 

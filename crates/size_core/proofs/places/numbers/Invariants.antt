@@ -1,5 +1,4 @@
-use Rattle.std.proofs.Common.{◌≡◌, ◌≤◌}
-use Rattle.std.specs.List.{range_with_len}
+use Rattle.size_core.proofs.Prelude.{◌≡◌, ◌≤◌, range_with_len}
 use Rattle.size_core.proofs.places.numbers.Given as goal
 
 abbrev pub invariant-loop-number : goal.invariant-loop-number

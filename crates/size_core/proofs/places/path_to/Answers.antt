@@ -1,10 +1,5 @@
-use Rattle.std.proofs.Common.{◌≡◌, ℕ, List, map, sym, ap, ◌∙◌, subst}
-use Rattle.std.specs.Prelude.{slice_index}
-use Rattle.tree_defs.specs.Tree.{Address}
-use Rattle.embed_defs.specs.Images.{image_map}
+use Rattle.size_core.proofs.Prelude.{◌≡◌, ◌∙◌, ℕ, sym, ap, List, subst, map, slice_index, lane-lift, image_map, Address, IsPath}
 use Rattle.embed_core.specs.Lanes.{IsLaneTo}
-use Rattle.embed_core.proofs.LaneLifts.{lane-lift}
-use Rattle.size_core.specs.Paths.{IsPath}
 use Rattle.size_core.proofs.places.path_to.Goals as goal
 
 pub returns-clause-path : goal.returns-clause-path

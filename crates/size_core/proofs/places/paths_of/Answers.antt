@@ -1,16 +1,6 @@
-use Rattle.std.proofs.Common.{◌≡◌, ℕ, ◌+◌, ◌∷◌, [], ◌++◌, IfSome, List, length, sym, ap, ◌∙◌, subst, arith}
-use Rattle.std.proofs.lemmas.List.{length-append}
-use Rattle.std.specs.Prelude.{slice_get, Vec}
+use Rattle.size_core.proofs.Prelude.{◌≡◌, ◌∙◌, ℕ, length, sym, ap, List, arith, subst, ◌+◌, IfSome, [], ◌∷◌, ◌++◌, length-append, range_with_len, slice_get, Vec, image_map, lift_ranks, leaf_of, Address, LeadsToLeaf, IsPathTo, addresses, add_paths, add_path, Hop}
 use Rattle.std.specs.declared.alloc.Global.{Global}
-use Rattle.std.specs.List.{range_with_len}
-use Rattle.tree_defs.specs.Tree.{Address, LeadsToLeaf}
-use Rattle.embed_defs.specs.Images.{image_map}
-use Rattle.embed_defs.specs.Lift.{lift_ranks}
-use Rattle.sched_embedded.specs.Laid.{leaf_of}
 use Rattle.sched_embedded.proofs.ClassLanes.{leaf-told, leaf-leads}
-use Rattle.size_core.specs.declared.hop.Hop.{Hop}
-use Rattle.size_core.specs.Paths.{IsPathTo}
-use Rattle.size_core.specs.Places.{addresses, add_path, add_paths}
 use Rattle.size_core.proofs.PlaceLaws.{paths-more}
 use Rattle.size_core.proofs.Lists.{each_push, each_weaker, path-grows}
 use Rattle.size_core.proofs.places.paths_of.Goals as goal

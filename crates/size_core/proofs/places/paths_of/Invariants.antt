@@ -1,9 +1,4 @@
-use Rattle.std.proofs.Common.{◌≡◌, ℕ, IfSome, length}
-use Rattle.std.specs.Prelude.{slice_get}
-use Rattle.sched_embedded.specs.Laid.{leaf_of}
-use Rattle.size_core.specs.Paths.{Grows, IsPathTo}
-use Rattle.embed_defs.specs.Images.{image_map}
-use Rattle.size_core.specs.Places.{addresses, add_paths}
+use Rattle.size_core.proofs.Prelude.{◌≡◌, ℕ, length, IfSome, slice_get, image_map, leaf_of, Grows, IsPathTo, addresses, add_paths}
 use Rattle.size_core.proofs.places.paths_of.Given as goal
 
 abbrev pub invariant-loop-class : goal.invariant-loop-class

@@ -1,9 +1,5 @@
-use Rattle.std.proofs.Common.{◌≡◌, ◌+◌, ◌<◌, ℕ, List, length, map, sym, ap, ◌∙◌, subst, arith}
-use Rattle.std.proofs.lemmas.List.{with_items_is}
+use Rattle.size_core.proofs.Prelude.{◌≡◌, ◌∙◌, ℕ, length, sym, ap, List, arith, subst, ◌+◌, ◌<◌, map, with_items_is, range_with_len, AllByRecursion, slice_index, lane-lift, lane-within}
 use Rattle.std.proofs.lemmas.List.FromFn.{length-range_with_len}
-use Rattle.std.specs.Prelude.{slice_index}
-use Rattle.std.specs.List.{AllByRecursion, range_with_len}
-use Rattle.embed_core.proofs.LaneLifts.{lane-lift, lane-within}
 use Rattle.size_core.proofs.places.steps_of.Goals as goal
 
 pub lift-requires-clause-within : goal.lift-requires-clause-within

@@ -1,12 +1,5 @@
-use Rattle.std.proofs.Common.{◌≡◌, ◌+◌, ℕ, Some, IfSome, List, [], ◌∷◌, ◌++◌, length, sym, ap, ◌∙◌, subst, arith}
-use Rattle.std.proofs.lemmas.List.{length-append}
-use Rattle.tree_defs.specs.Tree.{Address}
+use Rattle.size_core.proofs.Prelude.{◌≡◌, ◌∙◌, ℕ, length, sym, ap, List, arith, subst, ◌+◌, IfSome, Some, [], ◌∷◌, ◌++◌, length-append, Address, address_in, AreUnused, unused_at, stores_at, unused, Has}
 use Rattle.size_core.specs.declared.node.Node.{Node}
-use Rattle.size_core.specs.Use.{unused}
-use Rattle.size_core.specs.Watching.{Has}
-use Rattle.size_core.specs.Paths.{address_in}
-use Rattle.size_core.specs.Sizes.{stores_at, unused_at}
-use Rattle.size_core.specs.Results.{AreUnused}
 use Rattle.size_core.proofs.Lists.{unused-push}
 use Rattle.size_core.proofs.queues.empty_nodes.Goals as goal
 

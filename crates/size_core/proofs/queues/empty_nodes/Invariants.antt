@@ -1,5 +1,4 @@
-use Rattle.std.proofs.Common.{◌≡◌, length}
-use Rattle.size_core.specs.Results.{AreUnused}
+use Rattle.size_core.proofs.Prelude.{◌≡◌, length, AreUnused}
 use Rattle.size_core.proofs.queues.empty_nodes.Given as goal
 
 abbrev pub invariant-loop-index : goal.invariant-loop-index

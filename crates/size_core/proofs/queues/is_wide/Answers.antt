@@ -1,8 +1,5 @@
-use Rattle.std.proofs.Common.{◌≡◌, ◌<◌, ◌≤◌, ◌^◌, ℕ, nat_lt, nat_le, false, Some, ap, sym, ◌∙◌, arith, rules}
-use Rattle.std.proofs.lemmas.Bool.{lt-leb}
+use Rattle.size_core.proofs.Prelude.{◌≡◌, ◌∙◌, ℕ, sym, ap, arith, ◌<◌, ◌≤◌, Some, false, nat_lt, ◌^◌, nat_le, rules, lt-leb, nat_tests, is_wide}
 use Rattle.std.proofs.Math.Nat.{pow-le-pow_right}
-use Rattle.std.proofs.lemmas.Bool.Decides.{nat_tests}
-use Rattle.size_core.specs.Limits.{is_wide}
 use Rattle.size_core.proofs.queues.is_wide.Goals as goal
 
 pub returns-else-bits-lt64 : goal.returns-else-bits-lt64

@@ -1,8 +1,4 @@
-use Rattle.std.proofs.Common.{◌≡◌, ◌≤◌, map, length}
-use Rattle.size_core.specs.Sizes.{line_of}
-use Rattle.size_core.specs.Hops.{Uses}
-use Rattle.size_core.specs.Watching.{HaveUses}
-use Rattle.size_core.specs.Results.{lines_of}
+use Rattle.size_core.proofs.Prelude.{◌≡◌, length, ◌≤◌, map, Uses, lines_of, line_of, HaveUses}
 use Rattle.size_core.proofs.SizeLaws.{IsSameFrom}
 use Rattle.size_core.proofs.results.sizes_of.Given as goal
 

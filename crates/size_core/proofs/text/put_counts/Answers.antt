@@ -1,5 +1,4 @@
-use Rattle.std.proofs.Common.{◌∙◌, append_assoc}
-use Rattle.std.proofs.lemmas.Result.{on_ok_weaker}
+use Rattle.size_core.proofs.Prelude.{◌∙◌, append_assoc, on_ok_weaker}
 use Rattle.size_core.specs.Text.{counts_text}
 use Rattle.size_core.proofs.text.put_counts.Goals as goal
 

@@ -1,5 +1,4 @@
-use Rattle.std.proofs.Common.{◌≡◌, take}
-use Rattle.study.specs.Labels.{held_labels}
+use Rattle.study.proofs.Prelude.{◌≡◌, take, held_labels}
 use Rattle.study.proofs.labels.class_labels.Given as goal
 
 abbrev pub invariant-loop-line : goal.invariant-loop-line

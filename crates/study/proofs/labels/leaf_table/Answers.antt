@@ -1,6 +1,5 @@
-use Rattle.std.proofs.Common.{map, ap, ◌∙◌}
+use Rattle.study.proofs.Prelude.{ap, ◌∙◌, map, leaf_index}
 use Rattle.std.proofs.lemmas.List.{take_all}
-use Rattle.study.specs.Labels.{leaf_index}
 use Rattle.study.proofs.LabelLaws.{table_of_classes}
 use Rattle.study.proofs.labels.leaf_table.Goals as goal
 

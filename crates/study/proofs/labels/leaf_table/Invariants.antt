@@ -1,5 +1,4 @@
-use Rattle.std.proofs.Common.{◌≡◌, map, take}
-use Rattle.study.specs.Labels.{leaf_index}
+use Rattle.study.proofs.Prelude.{◌≡◌, map, take, leaf_index}
 use Rattle.study.proofs.labels.leaf_table.Given as goal
 
 abbrev pub invariant-loop-class : goal.invariant-loop-class

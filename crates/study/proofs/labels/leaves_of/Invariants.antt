@@ -1,5 +1,4 @@
-use Rattle.std.proofs.Common.{◌≡◌, ◌<◌, ℕ, length, get_or}
-use Rattle.study.specs.Labels.{leaf_labels, leaf_index}
+use Rattle.study.proofs.Prelude.{◌≡◌, ℕ, length, get_or, ◌<◌, leaf_index, leaf_labels}
 use Rattle.study.proofs.labels.leaves_of.Given as goal
 
 abbrev pub invariant-loop-node : goal.invariant-loop-node

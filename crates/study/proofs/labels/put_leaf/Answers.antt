@@ -1,6 +1,4 @@
-use Rattle.std.proofs.Common.{[], ◌∷◌, ◌++◌, ap, sym, ◌∙◌, append-nil}
-use Rattle.summary_core.specs.declared.group.Label.{Label}
-use Rattle.std.specs.Prelude.{List}
+use Rattle.study.proofs.Prelude.{ap, ◌∙◌, List, sym, ◌++◌, append-nil, Label}
 use Rattle.study.proofs.LabelLaws.{one_leaf_label, no_leaf_label}
 use Rattle.study.proofs.labels.put_leaf.Goals as goal
 

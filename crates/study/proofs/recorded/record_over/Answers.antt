@@ -1,5 +1,4 @@
-use Rattle.std.proofs.lemmas.Result.{err_from_is_err_and}
-use Rattle.sched_capture.specs.CapturePackets.{left_of}
+use Rattle.study.proofs.Prelude.{err_from_is_err_and, left_of}
 use Rattle.study.proofs.RecordedRuns.{whole_over_file, part_over_file}
 use Rattle.study.proofs.recorded.record_over.Goals as goal
 

@@ -1,6 +1,4 @@
-use Rattle.std.proofs.Common.{arith}
-use Rattle.std.proofs.lemmas.Result.{err_from_is_err_and}
-use Rattle.sched_capture.specs.CapturePackets.{left_of, captures_of, there}
+use Rattle.study.proofs.Prelude.{arith, err_from_is_err_and, left_of, captures_of, there}
 use Rattle.sched_capture.proofs.FromStart.{stand_at_start}
 use Rattle.study.proofs.RecordedRuns.{recorded_whole, can_whole, recorded_ending, cut_amid}
 use Rattle.study.proofs.recorded.record_packets.Goals as goal

@@ -1,12 +1,7 @@
-use Rattle.std.proofs.Common.{◌∷◌}
+use Rattle.study.proofs.Prelude.{inl, ◌∷◌, told-later, accepted_told, refused_told, judged_of, drive_files, target_of, with_target}
 use Rattle.report_core.specs.declared.fault.FaultKind.TheVariants as kind
-use Rattle.replay_app.specs.Policies.{judged_of}
-use Rattle.replay_app.proofs.AnswerLaws.{told-later}
-use Rattle.replay_app.proofs.FollowLaws.{accepted_told, refused_told}
 use Rattle.replay_app.proofs.Inputs.{policies_are_one}
-use Rattle.std.proofs.Common.{inl}
 use Rattle.study.proofs.SumLaws.{or_told, named_classes}
-use Rattle.study.specs.Files.{target_of, with_target, drive_files}
 use Rattle.study.proofs.stages.study_inputs.Goals as goal
 
 pub returns-in-Accepted-clause-answer : goal.returns-in-Accepted-clause-answer

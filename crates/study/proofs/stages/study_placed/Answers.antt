@@ -1,12 +1,7 @@
-use Rattle.std.proofs.Common.{refl, ap, subst, ◌∙◌}
-use Rattle.std.specs.Prelude.{Err}
-use Rattle.tree_defs.specs.Tree.{SameShape}
-use Rattle.tree_defs.specs.Topology.{Topology, topology_of, complete}
+use Rattle.study.proofs.Prelude.{ap, ◌∙◌, refl, inl, subst, Err, accepted_told, refused_told, topology_of, Topology, complete, SameShape}
 use Rattle.embed_defs.specs.Embedding.{IsEmbedding, HasEmbedding}
 use Rattle.embed_defs.specs.Images.{image_map}
 use Rattle.report_core.specs.declared.fault.FaultKind.TheVariants as kind
-use Rattle.replay_app.proofs.FollowLaws.{accepted_told, refused_told}
-use Rattle.std.proofs.Common.{inl}
 use Rattle.study.proofs.SumLaws.{or_told}
 use Rattle.replay_app.proofs.Inputs.{rooms_are_one, placement}
 use Rattle.study.proofs.stages.study_placed.Goals as goal

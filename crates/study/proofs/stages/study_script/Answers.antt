@@ -1,10 +1,7 @@
-use Rattle.std.proofs.Common.{◌∙◌}
+use Rattle.study.proofs.Prelude.{◌∙◌, inl, err_from_is_err_and, accepted_told, refused_told}
 use Rattle.report_core.specs.declared.fault.FaultKind.TheVariants as kind
-use Rattle.replay_app.proofs.FollowLaws.{accepted_told, refused_told}
-use Rattle.std.proofs.Common.{inl}
 use Rattle.study.proofs.SumLaws.{or_told}
 use Rattle.replay_app.proofs.Inputs.{scripts_are_one}
-use Rattle.std.proofs.lemmas.Result.{err_from_is_err_and}
 use Rattle.study.proofs.RunLaws.{nothing_told}
 use Rattle.study.proofs.stages.study_script.Goals as goal
 

@@ -1,11 +1,7 @@
-use Rattle.std.proofs.Common.{◌∷◌}
+use Rattle.study.proofs.Prelude.{inl, ◌∷◌, told-later, accepted_told, refused_told, drive_files}
 use Rattle.report_core.specs.declared.fault.FaultKind.TheVariants as kind
-use Rattle.replay_app.proofs.AnswerLaws.{told-later}
-use Rattle.replay_app.proofs.FollowLaws.{accepted_told, refused_told}
-use Rattle.std.proofs.Common.{inl}
 use Rattle.study.proofs.SumLaws.{or_told}
 use Rattle.replay_app.proofs.Inputs.{targets_are_one}
-use Rattle.study.specs.Files.{drive_files}
 use Rattle.study.proofs.stages.study_target.Goals as goal
 
 pub study_placed-requires-clause-range : goal.study_placed-requires-clause-range

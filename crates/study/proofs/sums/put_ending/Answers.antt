@@ -1,5 +1,4 @@
-use Rattle.outside_core.proofs.KeptLaws.{sink-same}
-use Rattle.outside_core.proofs.WrittenLaws.{appended_nothing}
+use Rattle.study.proofs.Prelude.{sink-same, appended_nothing}
 use Rattle.study.proofs.sums.put_ending.Goals as goal
 
 pub returns-in-Whole-clause-ok : goal.returns-in-Whole-clause-ok

@@ -1,6 +1,4 @@
-use Rattle.std.proofs.lemmas.Result.{err_from_is_err_and}
-use Rattle.outside_core.proofs.WrittenLaws.{appended_in_turn}
-use Rattle.outside_core.proofs.KeptLaws.{Begins-trans}
+use Rattle.study.proofs.Prelude.{err_from_is_err_and, Begins-trans, appended_in_turn}
 use Rattle.report_core.proofs.TextLaws.{IsCut-append, IsCut-longer}
 use Rattle.report_core.proofs.WholeTexts.{cut_part, cut_end, whole_end}
 use Rattle.study.proofs.sums.write_ended.Goals as goal

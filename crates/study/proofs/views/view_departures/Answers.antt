@@ -1,5 +1,4 @@
-use Rattle.std.proofs.lemmas.Result.{err_from_is_err_and}
-use Rattle.replay_app.proofs.AnswerLaws.{forward_ends}
+use Rattle.study.proofs.Prelude.{err_from_is_err_and, forward_ends}
 use Rattle.study.proofs.RunLaws.{departures_told, departures_cut}
 use Rattle.study.proofs.views.view_departures.Goals as goal
 

@@ -1,9 +1,5 @@
-use Rattle.std.proofs.Common.{refl}
-use Rattle.std.proofs.lemmas.Result.{err_from_is_err_and}
-use Rattle.outside_core.proofs.KeptLaws.{Begins-trans}
-use Rattle.sched_run.specs.Steps.{pace_of}
+use Rattle.study.proofs.Prelude.{refl, err_from_is_err_and, Begins-trans, pace_ends, pace_of}
 use Rattle.event_json.specs.contracts.recorder.JsonReportRecorder.TheImpl.{ghosts}
-use Rattle.replay_app.proofs.AnswerLaws.{pace_ends}
 use Rattle.study.proofs.JsonLaws.{json_unread, json_refused, json_closed, json_stopped}
 use Rattle.study.proofs.RunLaws.{ending_statuses}
 use Rattle.study.proofs.views.view_json.Goals as goal
@@ -23,7 +19,7 @@ pub returns-in-Whole-clause-answer : goal.returns-in-Whole-clause-answer
 returns-in-Whole-clause-answer g c =
     let fresh = rw c.rate_of.ensures.rate at c.in_ok-recorder.ensures.nothing in
     let run = rw c.in-Whole.is at c.in_ok-recorded.ensures.recorded in
-    let begins = Begins-trans _ _ _ c.in_ok-recorded.ensures.kept.begins c.close_json.ensures.kept.begins in
+    let begins = Begins-trans _ _ _ c.record.ensures.outside.kept.begins c.close_json.ensures.kept.begins in
     json_closed c.args.policy.now (pace_of c.args.task.now.pace) _ fresh ghosts (λ captured a b os v r. r) (λ captured a b os r. r) _ _ _ c.close_json.result _ _ _ run begins
     c.close_json.ensures.status c.close_json.ensures.whole c.close_json.ensures.cut
 

@@ -1,6 +1,4 @@
-use Rattle.std.proofs.lemmas.Result.{err_from_is_err_and}
-use Rattle.sched_run.specs.Steps.{pace_of}
-use Rattle.replay_app.proofs.AnswerLaws.{pace_ends}
+use Rattle.study.proofs.Prelude.{err_from_is_err_and, pace_ends, pace_of}
 use Rattle.replay_app.proofs.CaptureLaws.{own_told, own_cut}
 use Rattle.study.proofs.views.view_report.Goals as goal
 

@@ -1,9 +1,5 @@
-use Rattle.std.proofs.Common.{refl}
-use Rattle.std.proofs.lemmas.Result.{err_from_is_err_and}
-use Rattle.tree_defs.specs.Topology.{topology_of}
+use Rattle.study.proofs.Prelude.{err_from_is_err_and, pace_of, Fits, topology_of}
 use Rattle.embed_defs.proofs.EmbeddedMaps.{embeddings_are_good_maps}
-use Rattle.sched_run.specs.Steps.{pace_of}
-use Rattle.size_core.specs.Laws.{Fits}
 use Rattle.size_core.specs.contracts.recorder.SizingRecorder.TheImpl.{ghosts}
 use Rattle.study.proofs.SizeLaws.{sizes_refused, sizes_stopped, sizes_unmade, sizes_closed}
 use Rattle.study.proofs.views.view_sizes.Goals as goal

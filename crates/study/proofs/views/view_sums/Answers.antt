@@ -1,9 +1,5 @@
-use Rattle.std.proofs.Common.{refl, inr, ◌∙◌}
-use Rattle.std.proofs.lemmas.Result.{err_from_is_err_and}
-use Rattle.sched_run.specs.Steps.{pace_of}
+use Rattle.study.proofs.Prelude.{◌∙◌, refl, inr, err_from_is_err_and, pace_ends, judged_of, pace_of}
 use Rattle.summary_core.specs.contracts.recorder.SummaryRecorder.TheImpl.{ghosts}
-use Rattle.replay_app.specs.Policies.{judged_of}
-use Rattle.replay_app.proofs.AnswerLaws.{pace_ends}
 use Rattle.study.proofs.LabelLaws.{held_labels_are}
 use Rattle.study.proofs.SumLaws.{sums_unread, sums_refused, sums_stopped, sums_closed, sum_statuses}
 use Rattle.study.proofs.views.view_sums.Goals as goal

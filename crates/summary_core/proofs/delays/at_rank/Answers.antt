@@ -1,6 +1,4 @@
-use Rattle.std.proofs.Common.{◌+◌, ◌-◌, ◌/◌, arith}
-use Rattle.summary_core.specs.Lists.{list_at}
-use Rattle.summary_core.specs.Ranks.{listed}
+use Rattle.summary_core.proofs.Prelude.{arith, ◌+◌, ◌-◌, ◌/◌, list_at, listed}
 use Rattle.summary_core.proofs.Ranks.{count-le}
 use Rattle.summary_core.proofs.delays.at_rank.Goals as goal
 

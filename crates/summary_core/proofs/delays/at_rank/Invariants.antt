@@ -1,6 +1,4 @@
-use Rattle.std.proofs.Common.{◌<◌, ◌≤◌, ◌-◌, ℕ}
-use Rattle.summary_core.specs.Lists.{list_at}
-use Rattle.summary_core.specs.Ranks.{count_to, listed}
+use Rattle.summary_core.proofs.Prelude.{ℕ, ◌≤◌, ◌<◌, ◌-◌, list_at, listed, count_to}
 use Rattle.summary_core.proofs.delays.at_rank.Given as goal
 
 abbrev pub invariant-loop-low : goal.invariant-loop-low

@@ -1,6 +1,4 @@
-use Rattle.std.proofs.Common.{List, ℕ, ap, arith}
-use Rattle.summary_core.specs.Lists.{list_at}
-use Rattle.summary_core.specs.Ranks.{count_to}
+use Rattle.summary_core.proofs.Prelude.{ℕ, arith, List, ap, list_at, count_to}
 use Rattle.summary_core.proofs.Ranks.{counted-more}
 use Rattle.summary_core.proofs.delays.count_all.Goals as goal
 

@@ -1,6 +1,4 @@
-use Rattle.std.proofs.Common.{◌≡◌, ◌≤◌, ◌*◌, ◌^◌, take}
-use Rattle.summary_core.specs.Lists.{list_at}
-use Rattle.summary_core.specs.Ranks.{count_to, listed}
+use Rattle.summary_core.proofs.Prelude.{◌≡◌, ◌≤◌, take, ◌*◌, ◌^◌, list_at, listed, count_to}
 use Rattle.summary_core.proofs.delays.count_all.Given as goal
 
 abbrev pub invariant-loop-place : goal.invariant-loop-place

@@ -1,5 +1,4 @@
-use Rattle.std.proofs.Common.{rules, leb, sym}
-use Rattle.std.proofs.lemmas.List.Sorted.{IsNonDecreasingBy-from_sort, IsPartitionedBy-leb, IsPartitionPoint-from_clause}
+use Rattle.summary_core.proofs.Prelude.{sym, leb, rules, IsNonDecreasingBy-from_sort, IsPartitionPoint-from_clause, IsPartitionedBy-leb}
 use Rattle.summary_core.proofs.Ranks.{count-point}
 use Rattle.summary_core.proofs.delays.count_to.Goals as goal
 

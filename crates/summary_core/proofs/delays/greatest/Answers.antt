@@ -1,7 +1,5 @@
-use Rattle.std.proofs.Common.{◌≤◌, All, List, ℕ, take, get_or, sym, subst, arith}
+use Rattle.summary_core.proofs.Prelude.{ℕ, arith, List, ◌≤◌, sym, subst, take, get_or, All, list_at, listed}
 use Rattle.std.proofs.lemmas.List.Elements.{All-append}
-use Rattle.summary_core.specs.Lists.{list_at}
-use Rattle.summary_core.specs.Ranks.{listed}
 use Rattle.summary_core.proofs.Ranks.{listed-more, take_all, count_all}
 use Rattle.summary_core.proofs.delays.greatest.Goals as goal
 

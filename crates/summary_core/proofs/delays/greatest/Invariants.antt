@@ -1,6 +1,4 @@
-use Rattle.std.proofs.Common.{◌≤◌, All, take}
-use Rattle.summary_core.specs.Lists.{list_at}
-use Rattle.summary_core.specs.Ranks.{listed}
+use Rattle.summary_core.proofs.Prelude.{◌≤◌, take, All, list_at, listed}
 use Rattle.summary_core.proofs.delays.greatest.Given as goal
 
 abbrev pub invariant-loop-place : goal.invariant-loop-place

@@ -1,5 +1,4 @@
-use Rattle.std.proofs.Common.{◌≤◌, ◌-◌, length, slice_index_or, arith}
-use Rattle.std.proofs.lemmas.List.Sorted.{IsNonDecreasingBy-from_sort}
+use Rattle.summary_core.proofs.Prelude.{length, arith, ◌≤◌, ◌-◌, slice_index_or, IsNonDecreasingBy-from_sort}
 use Rattle.summary_core.proofs.delays.last_of.Goals as goal
 
 pub returns-in-Some : goal.returns-in-Some

@@ -1,5 +1,4 @@
-use Rattle.std.proofs.Common.{◌+◌, ◌*◌, ◌/◌, ◌%◌, ap, ap₂, ◌∙◌}
-use Rattle.std.specs.Int.{div_ceil}
+use Rattle.summary_core.proofs.Prelude.{ap, ◌∙◌, ◌+◌, ◌*◌, ◌/◌, ap₂, ◌%◌, div_ceil}
 use Rattle.summary_core.proofs.Ranks.{nearest}
 use Rattle.summary_core.proofs.delays.nearest_rank.Goals as goal
 

@@ -1,6 +1,4 @@
-use Rattle.std.proofs.Common.{◌<◌, length, arith}
-use Rattle.summary_core.specs.Lists.{list_at}
-use Rattle.summary_core.specs.Ranks.{listed}
+use Rattle.summary_core.proofs.Prelude.{length, arith, ◌<◌, list_at, listed}
 use Rattle.summary_core.proofs.Selected.{are_percentiles}
 use Rattle.summary_core.proofs.delays.percentiles.Goals as goal
 

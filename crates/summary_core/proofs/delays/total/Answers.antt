@@ -1,5 +1,4 @@
-use Rattle.std.proofs.Common.{List, ℕ, length, ap, arith}
-use Rattle.summary_core.specs.Lists.{list_at}
+use Rattle.summary_core.proofs.Prelude.{ℕ, length, arith, List, ap, list_at}
 use Rattle.summary_core.proofs.Ranks.{length-more}
 use Rattle.summary_core.proofs.delays.total.Goals as goal
 

@@ -1,6 +1,4 @@
-use Rattle.std.proofs.Common.{◌≡◌, ◌≤◌, ◌*◌, ◌^◌, take, length}
-use Rattle.summary_core.specs.Lists.{list_at}
-use Rattle.summary_core.specs.Ranks.{listed}
+use Rattle.summary_core.proofs.Prelude.{length, ◌≡◌, ◌≤◌, take, ◌*◌, ◌^◌, list_at, listed}
 use Rattle.summary_core.proofs.delays.total.Given as goal
 
 abbrev pub invariant-loop-place : goal.invariant-loop-place

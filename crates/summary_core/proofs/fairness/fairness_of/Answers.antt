@@ -1,7 +1,5 @@
-use Rattle.std.proofs.Common.{◌≡◌, ℕ, ◌+◌, List, ◌∷◌, length, drop, sym, ap, ◌∙◌, arith}
+use Rattle.summary_core.proofs.Prelude.{ℕ, length, ◌≡◌, arith, List, ap, ◌∙◌, sym, ◌∷◌, ◌+◌, drop, shares, squares, total, Group}
 use Rattle.std.proofs.lemmas.List.{at_drop_more}
-use Rattle.summary_core.specs.declared.group.Group.{Group}
-use Rattle.summary_core.specs.Fairness.{shares, total, squares}
 use Rattle.summary_core.proofs.ShareLemmas.{count-first, sum-first, squares-first}
 use Rattle.summary_core.proofs.fairness.fairness_of.Goals as goal
 

@@ -1,5 +1,4 @@
-use Rattle.std.proofs.Common.{◌≡◌, ◌+◌, length, drop}
-use Rattle.summary_core.specs.Fairness.{shares, total, squares}
+use Rattle.summary_core.proofs.Prelude.{length, ◌≡◌, ◌+◌, drop, shares, squares, total}
 use Rattle.summary_core.proofs.fairness.fairness_of.Given as goal
 
 abbrev pub invariant-loop-leaf : goal.invariant-loop-leaf

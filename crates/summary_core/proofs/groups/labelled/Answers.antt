@@ -1,11 +1,5 @@
-use Rattle.std.proofs.Common.{◌≡◌, ◌+◌, ℕ, List, [], ◌∷◌, ◌++◌, length, map, take, IfSome, sym, ap, subst, ◌∙◌, arith}
-use Rattle.std.specs.Prelude.{slice_get}
-use Rattle.std.proofs.lemmas.List.{length-append, map-append, take_more}
-use Rattle.summary_core.specs.declared.part.Part.{Part}
-use Rattle.summary_core.specs.declared.group.Label.{Label}
-use Rattle.summary_core.specs.declared.group.Group.{Group}
-use Rattle.summary_core.specs.Parts.{part_at}
-use Rattle.summary_core.specs.Figures.{AreFigures}
+use Rattle.summary_core.proofs.Prelude.{ℕ, length, ◌≡◌, arith, List, ap, ◌∙◌, sym, [], ◌∷◌, ◌+◌, subst, ◌++◌, take, IfSome, map, length-append, slice_get, AreFigures, part_at, Group, Label, Part}
+use Rattle.std.proofs.lemmas.List.{map-append, take_more}
 use Rattle.summary_core.proofs.GroupLemmas.{each_push}
 use Rattle.summary_core.proofs.groups.labelled.Goals as goal
 

@@ -1,7 +1,4 @@
-use Rattle.std.proofs.Common.{◌≡◌, ℕ, map, take, length, IfSome}
-use Rattle.std.specs.Prelude.{slice_get}
-use Rattle.summary_core.specs.Parts.{part_at}
-use Rattle.summary_core.specs.Figures.{AreFigures}
+use Rattle.summary_core.proofs.Prelude.{ℕ, length, ◌≡◌, take, IfSome, map, slice_get, AreFigures, part_at}
 use Rattle.summary_core.proofs.groups.labelled.Given as goal
 
 abbrev pub invariant-loop-index : goal.invariant-loop-index

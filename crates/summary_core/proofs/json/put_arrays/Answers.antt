@@ -1,6 +1,4 @@
-use Rattle.std.proofs.Common.{ℕ, List, ◌++◌, ap, ◌∙◌, append_assoc}
-use Rattle.std.specs.Prelude.{codes}
-use Rattle.summary_core.specs.declared.group.Group.{Group}
+use Rattle.summary_core.proofs.Prelude.{ℕ, List, ap, ◌∙◌, ◌++◌, append_assoc, codes, Group}
 use Rattle.summary_core.specs.Json.{array_json}
 use Rattle.summary_core.proofs.json.put_arrays.Goals as goal
 

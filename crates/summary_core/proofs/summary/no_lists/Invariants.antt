@@ -1,5 +1,4 @@
-use Rattle.std.proofs.Common.{◌≡◌, ◌≤◌, [], length}
-use Rattle.std.specs.List.{AllByRecursion}
+use Rattle.summary_core.proofs.Prelude.{length, ◌≡◌, ◌≤◌, [], AllByRecursion}
 use Rattle.summary_core.proofs.summary.no_lists.Given as goal
 
 abbrev pub invariant-loop : goal.invariant-loop

@@ -1,7 +1,5 @@
-use Rattle.std.proofs.Common.{◌==◌, refl}
-use Rattle.std.proofs.lemmas.Bool.{eqb-true, eqb-false}
+use Rattle.summary_core.proofs.Prelude.{refl, ◌==◌, eqb-true, eqb-false, delay_of}
 use Rattle.std.proofs.lemmas.Option.{slice_get_past, slice_get_read}
-use Rattle.summary_core.specs.Summing.{delay_of}
 use Rattle.summary_core.proofs.Tables.{one_longer, none_longer}
 use Rattle.summary_core.proofs.table.delay_at.Goals as goal
 

@@ -1,9 +1,5 @@
-use Rattle.std.proofs.Common.{◌<◌, ◌≤◌, ◌∙◌, ℕ, sym, subst, arith, inl, inr}
-use Rattle.std.specs.Ordering.{nat_cmp}
+use Rattle.summary_core.proofs.Prelude.{ℕ, arith, ◌≤◌, ◌∙◌, sym, ◌<◌, subst, inl, inr, cases_order, IsPermutation-trans, nat_cmp, list_at}
 use Rattle.std.specs.List.Sorted.{IsSorted}
-use Rattle.std.proofs.lemmas.Bool.{cases_order}
-use Rattle.std.proofs.lemmas.List.Sorted.{IsPermutation-trans}
-use Rattle.summary_core.specs.Lists.{list_at}
 use Rattle.summary_core.proofs.Tables.{none_past}
 use Rattle.summary_core.proofs.table.sort_lists.Goals as goal
 

@@ -1,7 +1,5 @@
-use Rattle.std.proofs.Common.{◌≡◌, ◌<◌, ℕ, length}
-use Rattle.std.specs.Ordering.{nat_cmp}
+use Rattle.summary_core.proofs.Prelude.{ℕ, length, ◌≡◌, ◌<◌, nat_cmp, list_at}
 use Rattle.std.specs.List.Sorted.{IsPermutation, IsSorted}
-use Rattle.summary_core.specs.Lists.{list_at}
 use Rattle.summary_core.proofs.table.sort_lists.Given as goal
 
 abbrev pub invariant-loop-index : goal.invariant-loop-index

@@ -1,6 +1,4 @@
-use Rattle.std.proofs.Common.{◌++◌, ◌∷◌, [], List, ℕ, take, get_or, decimal, ap, sym, ◌∙◌, append_assoc}
-use Rattle.std.specs.List.{join_with_byte}
-use Rattle.tap_core.specs.Lines.{words_of}
+use Rattle.tap_core.proofs.Prelude.{◌∙◌, ap, sym, ◌++◌, List, take, ℕ, [], ◌∷◌, get_or, append_assoc, decimal, join_with_byte, words_of}
 use Rattle.tap_core.proofs.LineLaws.{words_step}
 use Rattle.tap_core.proofs.line.put_line.Goals as goal
 

@@ -1,6 +1,4 @@
-use Rattle.std.proofs.Common.{◌≡◌, take}
-use Rattle.tap_core.specs.Lines.{words_of}
-use Rattle.std.specs.List.{join_with_byte}
+use Rattle.tap_core.proofs.Prelude.{◌≡◌, take, join_with_byte, words_of}
 use Rattle.tap_core.proofs.line.put_line.Given as goal
 
 -- the line so far is the words and the numbers already written

@@ -1,5 +1,4 @@
-use Rattle.std.proofs.Common.{rules, ap, ◌∙◌}
-use Rattle.tap_core.specs.Lists.{entries, is_named}
+use Rattle.tap_core.proofs.Prelude.{◌∙◌, ap, rules, entries, is_named}
 use Rattle.tap_core.proofs.Entries.{entries-filter, kept_by}
 use Rattle.tap_core.proofs.watch.keep_named.Goals as goal
 

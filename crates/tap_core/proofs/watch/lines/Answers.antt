@@ -1,5 +1,4 @@
-use Rattle.std.proofs.Common.{rules, ap, ◌∙◌, ◌≡◌, ◌<◌, ◌≤◌, ◌++◌, length, Some, None}
-use Rattle.std.specs.Prelude.{slice_get}
+use Rattle.tap_core.proofs.Prelude.{◌≡◌, ◌∙◌, ap, ◌++◌, length, ◌<◌, rules, ◌≤◌, None, Some, slice_get}
 use Rattle.tap_core.proofs.SlotLaws.{slot_at}
 use Rattle.tap_core.proofs.Passes.{past_line, past_waiting, lines_find, lines_at_end}
 use Rattle.tap_core.proofs.watch.lines.Goals as goal

@@ -1,6 +1,4 @@
-use Rattle.std.proofs.Common.{rules, arith, ◌≡◌, ◌<◌, ◌≤◌, Some, None, length}
-use Rattle.std.specs.Prelude.{slice_get}
-use Rattle.std.proofs.lemmas.List.{set-get_or}
+use Rattle.tap_core.proofs.Prelude.{◌≡◌, length, ◌<◌, rules, ◌≤◌, None, Some, arith, set-get_or, slice_get}
 use Rattle.tap_core.proofs.SlotLaws.{none_at, said_at}
 use Rattle.tap_core.proofs.Passes.{pass_said, pass_more, pass_done, pass_finds, pass_left, pass_tracked}
 use Rattle.tap_core.proofs.watch.show_departed.Goals as goal

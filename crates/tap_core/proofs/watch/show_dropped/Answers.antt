@@ -1,5 +1,4 @@
-use Rattle.std.proofs.Common.{rules, refl, add-one, ◌∙◌, ◌<◌, length}
-use Rattle.tap_core.specs.Lists.{dropped}
+use Rattle.tap_core.proofs.Prelude.{◌∙◌, refl, length, ◌<◌, rules, add-one, dropped}
 use Rattle.tap_core.proofs.Entries.{pass-read}
 use Rattle.tap_core.proofs.SlotLaws.{tracked-dropped}
 use Rattle.tap_core.proofs.watch.show_dropped.Goals as goal

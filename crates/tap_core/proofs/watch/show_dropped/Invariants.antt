@@ -1,5 +1,4 @@
-use Rattle.std.proofs.Common.{◌≡◌, ◌++◌, take, drop}
-use Rattle.tap_core.specs.Lists.{entries, dropped, left_after_one}
+use Rattle.tap_core.proofs.Prelude.{◌≡◌, ◌++◌, take, drop, entries, left_after_one, dropped}
 use Rattle.tap_core.proofs.watch.show_dropped.Given as goal
 
 -- the taps after the whole pass are the taps already passed, then the rest after the pass

@@ -1,6 +1,4 @@
-use Rattle.std.proofs.Common.{take}
-use Rattle.toml.specs.View.{items_view}
-use Rattle.target_core.specs.TargetText.{AreArities}
+use Rattle.target_core.proofs.Prelude.{take, items_view, AreArities}
 use Rattle.target_core.proofs.forms.arities_of.Given as goal
 
 abbrev pub invariant-loop-item : goal.invariant-loop-item

@@ -1,6 +1,4 @@
-use Rattle.std.proofs.Common.{◌≡◌, Some, refl, arith}
-use Rattle.toml.specs.View.{items_view, table_view}
-use Rattle.target_core.specs.TargetText.{each_arity}
+use Rattle.target_core.proofs.Prelude.{arith, ◌≡◌, Some, refl, table_view, items_view, each_arity}
 use Rattle.target_core.proofs.Faults.{too_many_levels}
 use Rattle.target_core.proofs.ItemArities.{as_many}
 use Rattle.target_core.proofs.forms.each_arity.Goals as goal

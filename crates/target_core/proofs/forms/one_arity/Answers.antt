@@ -1,5 +1,4 @@
-use Rattle.std.proofs.Common.{◌≡◌, Some, arith}
-use Rattle.target_core.specs.TargetText.{one_arity}
+use Rattle.target_core.proofs.Prelude.{arith, ◌≡◌, Some, one_arity}
 use Rattle.target_core.proofs.forms.one_arity.Goals as goal
 
 pub returns-clause-accepted : goal.returns-clause-accepted

@@ -1,5 +1,4 @@
-use Rattle.std.proofs.Common.{refl, sym, ◌∙◌, arith}
-use Rattle.toml.specs.View.{table_view}
+use Rattle.target_core.proofs.Prelude.{arith, sym, ◌∙◌, refl, table_view}
 use Rattle.target_core.proofs.Faults.{other_keys}
 use Rattle.target_core.proofs.TableValues.{as_many_keys}
 use Rattle.target_core.proofs.forms.target_of.Goals as goal

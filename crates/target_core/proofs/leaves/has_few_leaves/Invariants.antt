@@ -1,5 +1,4 @@
-use Rattle.std.proofs.Common.{◌≡◌, ◌*◌, ◌≤◌, drop}
-use Rattle.embed_defs.specs.Target.{leaves}
+use Rattle.target_core.proofs.Prelude.{◌≡◌, ◌≤◌, drop, ◌*◌, leaves}
 use Rattle.target_core.proofs.leaves.has_few_leaves.Given as goal
 
 abbrev pub invariant-loop-arity : goal.invariant-loop-arity

@@ -1,8 +1,5 @@
-use Rattle.std.proofs.Common.{◌≤◌, ◌<◌, length, arith}
+use Rattle.target_core.proofs.Prelude.{arith, ◌≤◌, length, ◌<◌, leaves, table_view, too_long}
 use Rattle.std.proofs.lemmas.Result.{err_from_is_err_and}
-use Rattle.toml.specs.View.{table_view}
-use Rattle.embed_defs.specs.Target.{leaves}
-use Rattle.target_core.specs.TargetText.{too_long}
 use Rattle.target_core.proofs.ArityRanges.{narrow_target, in_range-holds}
 use Rattle.target_core.proofs.Faults.{refused_toml, refused_keys, refused_leaves}
 use Rattle.target_core.proofs.read.read_target.Goals as goal

@@ -1,5 +1,4 @@
-use Rattle.toml.proofs.Views.{table_get}
-use Rattle.toml.specs.View.{view, array_view, table_view}
+use Rattle.target_core.proofs.Prelude.{table_get, table_view, view, array_view}
 use Rattle.target_core.proofs.TableValues.{no_array, no_array_value, array_found}
 use Rattle.target_core.proofs.values.array_at.Goals as goal
 

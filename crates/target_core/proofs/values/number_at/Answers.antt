@@ -1,5 +1,4 @@
-use Rattle.toml.proofs.Views.{table_get}
-use Rattle.toml.specs.View.{view, table_view}
+use Rattle.target_core.proofs.Prelude.{table_get, table_view, view}
 use Rattle.target_core.proofs.TableValues.{no_value, number_found, number_of_value}
 use Rattle.target_core.proofs.values.number_at.Goals as goal
 

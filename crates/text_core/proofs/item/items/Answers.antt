@@ -1,13 +1,8 @@
-use Rattle.std.proofs.Common.{◌≡◌, suc, ◌+◌, Some, Err, [], ◌∷◌, ◌++◌, length, take, get_or, option_map, sym, ap, ◌∙◌, subst, arith}
+use Rattle.text_core.proofs.Prelude.{length, ◌≡◌, arith, ◌+◌, [], ap, sym, ◌∷◌, subst, take, ◌∙◌, Some, ◌++◌, suc, get_or, option_map, Err, take_all, map-append, glyphs_of, glyph_of, AreSaid, said, token_text, Stand, Token}
 use Rattle.std.proofs.Math.Seq.{take-suc}
-use Rattle.std.proofs.lemmas.List.{take_all, map-append}
 use Rattle.std.proofs.lemmas.Result.{err_from_is_err_and}
-use Rattle.text_core.specs.declared.token.Token.{Token}
 use Rattle.text_core.specs.declared.token.TokenKind.TheVariants as k
 use Rattle.text_core.specs.declared.refusal.Refusal.TheVariants as refusal
-use Rattle.text_core.specs.Glyphs.{glyph_of, glyphs_of}
-use Rattle.text_core.specs.Tokens.{Stand}
-use Rattle.text_core.specs.Says.{said, AreSaid, token_text}
 use Rattle.text_core.proofs.TokenLaws.{Bad-silent, AreSaid-push, AreSaid-each, Says-AreSaid}
 use Rattle.text_core.proofs.SaysLaws.{Stand-Says}
 use Rattle.text_core.proofs.item.items.Goals as goal

@@ -1,6 +1,4 @@
-use Rattle.std.proofs.Common.{take}
-use Rattle.text_core.specs.Glyphs.{glyphs_of}
-use Rattle.text_core.specs.Says.{AreSaid}
+use Rattle.text_core.proofs.Prelude.{take, glyphs_of, AreSaid}
 use Rattle.text_core.proofs.item.items.Given as goal
 
 abbrev pub invariant-loop-token : goal.invariant-loop-token

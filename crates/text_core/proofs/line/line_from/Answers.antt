@@ -1,7 +1,4 @@
-use Rattle.std.proofs.Common.{◌≡◌, ◌+◌, ◌-◌, [], ◌∷◌, take, drop, ◌∙◌, ap, refl, arith}
-use Rattle.std.specs.List.{prefix_len, list_all}
-use Rattle.text_core.specs.declared.line.Line.{Line}
-use Rattle.text_core.specs.Lines.{is_text, is_clean, statement_length, line_at, Follow}
+use Rattle.text_core.proofs.Prelude.{◌≡◌, arith, ◌+◌, [], ap, drop, ◌∷◌, take, ◌∙◌, refl, ◌-◌, prefix_len, list_all, Follow, is_text, line_at, statement_length, is_clean, Line}
 use Rattle.text_core.proofs.LineLaws.{Follow-Hold}
 use Rattle.text_core.proofs.TokenLemmas.{rest-from}
 use Rattle.text_core.proofs.line.line_from.Goals as goal

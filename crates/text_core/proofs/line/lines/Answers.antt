@@ -1,5 +1,4 @@
-use Rattle.std.proofs.Common.{List, sym, subst}
-use Rattle.text_core.specs.Lines.{Follow}
+use Rattle.text_core.proofs.Prelude.{List, sym, subst, Follow}
 use Rattle.text_core.proofs.LineLaws.{Follow-Hold, Hold-whole, Hold-All, Hold-clean, Hold-count}
 use Rattle.text_core.proofs.LineLemmas.{Follow-join}
 use Rattle.text_core.proofs.line.lines.Goals as goal

@@ -1,5 +1,4 @@
-use Rattle.std.proofs.Common.{length, ◌-◌}
-use Rattle.text_core.specs.Lines.{Follow}
+use Rattle.text_core.proofs.Prelude.{length, ◌-◌, Follow}
 use Rattle.text_core.proofs.line.lines.Given as goal
 
 abbrev pub invariant-loop-at : goal.invariant-loop-at

@@ -1,5 +1,4 @@
-use Rattle.std.proofs.Common.{◌≡◌, ◌≤◌, drop}
-use Rattle.text_core.specs.Decimals.{number_of, max}
+use Rattle.text_core.proofs.Prelude.{◌≡◌, drop, ◌≤◌, max, number_of}
 use Rattle.text_core.proofs.DecimalLemmas.{number_after}
 use Rattle.text_core.proofs.number.decimal.Given as goal
 

@@ -1,6 +1,4 @@
-use Rattle.std.proofs.Common.{◌≡◌, ◌<◌, length, get_or, true, sym, ap, ◌∙◌, arith, rules}
-use Rattle.std.proofs.lemmas.List.Sums.{prefix_len-le-length}
-use Rattle.text_core.specs.Tokens.{is_digit, is_word_byte}
+use Rattle.text_core.proofs.Prelude.{length, ◌≡◌, arith, ap, sym, ◌∙◌, true, ◌<◌, get_or, rules, prefix_len-le-length, is_digit, is_word_byte}
 use Rattle.text_core.proofs.TokenLemmas.{prefix_len-some, either}
 use Rattle.text_core.proofs.token.token_at.Goals as goal
 

@@ -1,6 +1,4 @@
-use Rattle.std.proofs.Common.{◌≡◌, ◌+◌, ◌≤◌, List, length, drop, Some, None, Err, inl, sym, ◌∙◌, ap, arith, subst, length-drop}
-use Rattle.std.specs.List.{prefix_len}
-use Rattle.text_core.specs.Tokens.{is_blank, Stand, token_at, begun, after_blanks, IsFaultOf}
+use Rattle.text_core.proofs.Prelude.{length, ◌≡◌, arith, ◌+◌, List, ap, drop, sym, subst, ◌∙◌, ◌≤◌, Some, None, length-drop, inl, Err, prefix_len, Stand, begun, token_at, after_blanks, is_blank, IsFaultOf}
 use Rattle.text_core.specs.declared.token.TokenFault.TheVariants.{Bad}
 use Rattle.text_core.proofs.TokenLaws.{Stand-All, Fault-one, Fault-whole}
 use Rattle.text_core.proofs.TokenLemmas.{Stand-push, rest-from}

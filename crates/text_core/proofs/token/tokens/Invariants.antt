@@ -1,5 +1,4 @@
-use Rattle.std.proofs.Common.{length, ◌-◌, ◌≤◌}
-use Rattle.text_core.specs.Tokens.{Stand}
+use Rattle.text_core.proofs.Prelude.{length, ◌≤◌, ◌-◌, Stand}
 use Rattle.text_core.proofs.token.tokens.Given as goal
 
 abbrev pub invariant-loop-at : goal.invariant-loop-at

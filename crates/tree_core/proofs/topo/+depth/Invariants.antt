@@ -1,6 +1,4 @@
-use Rattle.std.proofs.Common.{◌≡◌, max, drop, map}
-use Rattle.tree_defs.specs.Tree.{trees_of, depth, depth_below}
-use Rattle.tree_core.specs.Shape.{topology}
+use Rattle.tree_core.proofs.Prelude.{◌≡◌, drop, map, max, depth, trees_of, depth_below, topology}
 use Rattle.tree_core.proofs.topo.+depth.Given as goal
 
 abbrev pub invariant-loop-child : goal.invariant-loop-child

@@ -1,5 +1,4 @@
-use Rattle.std.proofs.Common.{◌≡◌, ◌+◌, ℕ, arith, subst, suc, sym, get_or}
-use Rattle.tree_graph.specs.Descent.{Leads}
+use Rattle.tree_graph.proofs.Prelude.{arith, ℕ, sym, ◌≡◌, subst, ◌+◌, suc, get_or, Leads}
 use Rattle.tree_graph.proofs.Steps.{depth-none, depth-up, depth-found}
 use Rattle.tree_graph.proofs.depths.depth.Goals as goal
 

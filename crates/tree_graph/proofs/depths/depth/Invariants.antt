@@ -1,5 +1,4 @@
-use Rattle.std.proofs.Common.{◌<◌, length}
-use Rattle.tree_graph.specs.Descent.{Graph, IsForest, AreParents, Leads}
+use Rattle.tree_graph.proofs.Prelude.{length, ◌<◌, Graph, Leads, IsForest, AreParents}
 use Rattle.tree_graph.proofs.depths.depth.Given as goal
 
 abbrev pub invariant-loop-depth : goal.invariant-loop-depth

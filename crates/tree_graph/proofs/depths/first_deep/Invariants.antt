@@ -1,5 +1,4 @@
-use Rattle.std.proofs.Common.{ℕ, ◌<◌}
-use Rattle.tree_graph.specs.Descent.{Graph, IsForest, AreParents, IsDeep}
+use Rattle.tree_graph.proofs.Prelude.{ℕ, ◌<◌, Graph, IsForest, IsDeep, AreParents}
 use Rattle.tree_graph.proofs.depths.first_deep.Given as goal
 
 abbrev pub invariant-loop-node : goal.invariant-loop-node

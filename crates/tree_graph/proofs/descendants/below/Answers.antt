@@ -1,6 +1,4 @@
-use Rattle.std.proofs.Common.{◌≡◌, ◌<◌, ◌∙◌, ◌++◌, [], ℕ, List, Bool, subst, sym, ap, length, arith, All, take, drop}
-use Rattle.tree_graph.specs.Descent.{lists}
-use Rattle.tree_graph.specs.Marks.{MarksBelow, MarksMore}
+use Rattle.tree_graph.proofs.Prelude.{arith, ℕ, length, ap, sym, ◌<◌, ◌≡◌, subst, ◌∙◌, List, [], ◌++◌, take, Bool, drop, All, lists, MarksBelow, MarksMore}
 use Rattle.tree_graph.proofs.MarkLemmas.{popped-within, length-lists, children-within, worked, given_back, marking-done, empty}
 use Rattle.tree_graph.proofs.descendants.below.Goals as goal
 

@@ -1,6 +1,4 @@
-use Rattle.std.proofs.Common.{◌+◌, length}
-use Rattle.tree_graph.specs.Descent.{lists}
-use Rattle.tree_graph.specs.Marks.{MarksBelow, unmarked}
+use Rattle.tree_graph.proofs.Prelude.{length, ◌+◌, lists, MarksBelow, unmarked}
 use Rattle.tree_graph.proofs.descendants.below.Given as goal
 
 abbrev pub invariant-loop-next : goal.invariant-loop-next

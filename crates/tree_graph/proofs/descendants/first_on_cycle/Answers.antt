@@ -1,5 +1,4 @@
-use Rattle.std.proofs.Common.{below_more, arith}
-use Rattle.tree_graph.specs.Descent.{lists}
+use Rattle.tree_graph.proofs.Prelude.{arith, below_more, lists}
 use Rattle.tree_graph.proofs.FirstFaults.{not-below}
 use Rattle.tree_graph.proofs.descendants.first_on_cycle.Goals as goal
 

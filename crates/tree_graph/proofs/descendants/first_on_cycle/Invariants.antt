@@ -1,5 +1,4 @@
-use Rattle.std.proofs.Common.{ℕ, ◌<◌}
-use Rattle.tree_graph.specs.Descent.{lists, IsBelow}
+use Rattle.tree_graph.proofs.Prelude.{ℕ, ◌<◌, lists, IsBelow}
 use Rattle.tree_graph.proofs.descendants.first_on_cycle.Given as goal
 
 abbrev pub invariant-loop-node : goal.invariant-loop-node

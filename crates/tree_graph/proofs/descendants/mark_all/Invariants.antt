@@ -1,5 +1,4 @@
-use Rattle.std.proofs.Common.{take}
-use Rattle.tree_graph.specs.Marks.{MarksMore}
+use Rattle.tree_graph.proofs.Prelude.{take, MarksMore}
 use Rattle.tree_graph.proofs.descendants.mark_all.Given as goal
 
 abbrev pub invariant-loop-node : goal.invariant-loop-node

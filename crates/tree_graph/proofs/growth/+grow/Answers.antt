@@ -1,8 +1,4 @@
-use Rattle.std.proofs.Common.{rules, ◌≡◌, ◌<◌, ◌≤◌, ◌∙◌, ◌++◌, ◌∷◌, [], ℕ, List, suc, sym, ap, subst, length, map, get_or, arith, length-append}
-use Rattle.tree_core.specs.Shape.{topology}
-use Rattle.tree_graph.specs.Descent.{lists, IsWithin, IsChild, children}
-use Rattle.tree_graph.specs.Growth.{HasRoom}
-use Rattle.tree_graph.specs.Row.{Row, row}
+use Rattle.tree_graph.proofs.Prelude.{arith, ℕ, length, ap, sym, ◌<◌, ◌≡◌, subst, ◌∙◌, List, [], suc, ◌∷◌, ◌≤◌, ◌++◌, get_or, length-append, map, rules, topology, lists, IsChild, children, IsWithin, HasRoom, Row, row}
 use Rattle.tree_graph.proofs.MarkLemmas.{length-lists}
 use Rattle.tree_graph.proofs.GrowthLemmas.{growing-start, grown, closed, child-here, children-here, popped-off, within-child, child-within, room-child, room-here, digit-small}
 use Rattle.tree_graph.proofs.growth.+grow.Goals as goal

@@ -1,6 +1,4 @@
-use Rattle.std.proofs.Common.{◌-◌, length, map}
-use Rattle.tree_core.specs.Shape.{topology}
-use Rattle.tree_graph.specs.Descent.{lists}
+use Rattle.tree_graph.proofs.Prelude.{length, map, ◌-◌, topology, lists}
 use Rattle.tree_graph.proofs.GrowthLemmas.{Growing}
 use Rattle.tree_graph.proofs.growth.+grow.Given as goal
 

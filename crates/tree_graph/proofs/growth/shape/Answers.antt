@@ -1,5 +1,4 @@
-use Rattle.std.proofs.Common.{arith}
-use Rattle.tree_core.specs.Shape.{topology}
+use Rattle.tree_graph.proofs.Prelude.{arith, topology}
 use Rattle.tree_graph.proofs.Shapes.{branch-some}
 use Rattle.tree_graph.proofs.growth.shape.Goals as goal
 

@@ -1,5 +1,4 @@
-use Rattle.std.proofs.Common.{◌≡◌, ◌+◌, ◌<◌, ◌∙◌, ◌++◌, ℕ, List, subst, sym, ap, length, arith, All, take, drop}
-use Rattle.tree_graph.specs.Descent.{lists, children, ArePointed}
+use Rattle.tree_graph.proofs.Prelude.{arith, ℕ, length, ap, sym, ◌<◌, ◌≡◌, subst, ◌∙◌, List, ◌+◌, ◌++◌, take, drop, All, lists, children, ArePointed}
 use Rattle.tree_graph.proofs.MarkLemmas.{length-lists, children-at, children-within, given_back}
 use Rattle.tree_graph.proofs.ParentLemmas.{ArePointedTo, pointed-on, pointed-all}
 use Rattle.tree_graph.proofs.kinship.parents.Goals as goal

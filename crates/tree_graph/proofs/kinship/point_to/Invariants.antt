@@ -1,5 +1,4 @@
-use Rattle.std.proofs.Common.{take}
-use Rattle.tree_graph.specs.Descent.{ArePointed}
+use Rattle.tree_graph.proofs.Prelude.{take, ArePointed}
 use Rattle.tree_graph.proofs.kinship.point_to.Given as goal
 
 abbrev pub invariant-loop-node : goal.invariant-loop-node

@@ -1,6 +1,4 @@
-use Rattle.std.proofs.Common.{rules, arith, map, heap_items, deque_items}
-use Rattle.std.proofs.lemmas.List.{length-map}
-use Rattle.block_core.specs.Block.{held}
+use Rattle.block_core.proofs.Prelude.{arith, map, deque_items, heap_items, rules, length-map, held}
 use Rattle.block_core.proofs.BlockLaws.{new_is, new_counted, queue_in-new}
 use Rattle.block_core.proofs.PartLaws.{no_room}
 use Rattle.block_core.proofs.block.BlockPifo.new.Goals as goal

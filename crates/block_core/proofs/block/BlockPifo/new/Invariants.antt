@@ -1,5 +1,4 @@
-use Rattle.std.proofs.Common.{◌≡◌, [], length, map, deque_items}
-use Rattle.std.specs.List.{AllByRecursion}
+use Rattle.block_core.proofs.Prelude.{◌≡◌, length, [], map, deque_items, AllByRecursion}
 use Rattle.block_core.proofs.block.BlockPifo.new.Given as goal
 
 abbrev pub invariant-loop : goal.invariant-loop

@@ -1,7 +1,4 @@
-use Rattle.std.proofs.Common.{[], ◌≡◌, nat_lt, ap, sym, ◌∙◌, arith, length, map, get_or, heap_items, deque_items}
-use Rattle.std.proofs.lemmas.List.{length-map}
-use Rattle.block_core.specs.Stores.{last_rank}
-use Rattle.block_core.specs.Block.{spills_in, held, queue_in}
+use Rattle.block_core.proofs.Prelude.{arith, ◌≡◌, sym, length, ◌∙◌, ap, [], map, deque_items, heap_items, get_or, nat_lt, length-map, held, queue_in, spills_in, last_rank}
 use Rattle.block_core.proofs.BlockLaws.{spills-by_last}
 use Rattle.block_core.proofs.PartLaws.{store_at, flow_at, within}
 use Rattle.block_core.proofs.block.BlockPifo.spills.Goals as goal

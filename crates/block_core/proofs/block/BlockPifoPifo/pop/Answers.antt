@@ -1,11 +1,4 @@
-use Rattle.std.proofs.Common.{[], Some, ◌≡◌, ◌+◌, ◌-◌, ◌∷◌, ◌∙◌, ℕ, rules, arith, ap, sym, subst, drop, length, map, heap_items, heap_len, deque_items, deque_len, deque_capacity, get_or, set}
-use Rattle.std.specs.List.{AllByRecursion}
-use Rattle.std.specs.declared.cmp.Reverse.{Reverse}
-use Rattle.tree_defs.specs.Queue.{take_least}
-use Rattle.block_core.specs.declared.waiting.Waiting.{Waiting}
-use Rattle.block_core.specs.Arrival.{weight, Precedes}
-use Rattle.block_core.specs.Stores.{head_of}
-use Rattle.block_core.specs.Block.{held, queue_in, IsBlock, IsCounted, all_of}
+use Rattle.block_core.proofs.Prelude.{arith, ◌≡◌, sym, length, subst, ℕ, ◌∙◌, ap, [], map, ◌+◌, ◌∷◌, deque_items, heap_items, get_or, rules, set, Some, deque_len, ◌-◌, deque_capacity, heap_len, drop, AllByRecursion, Reverse, take_least, weight, Precedes, held, IsBlock, IsCounted, queue_in, all_of, head_of, Waiting}
 use Rattle.block_core.proofs.StoreLaws.{IsHeadAt}
 use Rattle.block_core.proofs.BlockLaws.{unspilt_is, unspilt_more, unspilt_queue, led_is, led_more, led_queue, head_at, nothing_waits}
 use Rattle.block_core.proofs.PartLaws.{store_at, flow_at, within, stores-set, room_at, room_set}

@@ -1,13 +1,4 @@
-use Rattle.std.proofs.Common.{refl, [], ◌≡◌, ◌≤◌, ◌<◌, ◌+◌, ◌-◌, ◌∷◌, ◌∙◌, ◌++◌, ℕ, rules, arith, ap, sym, subst, length, map, IsOk, heap_items, heap_len, deque_items, deque_len, deque_capacity, get_or}
-use Rattle.std.specs.BinaryHeap.{KeepsHeap}
-use Rattle.std.specs.List.Sorted.{IsPermutation}
-use Rattle.std.specs.declared.cmp.Reverse.{Reverse}
-use Rattle.std.proofs.lemmas.Bool.Decides.{nat_tests}
-use Rattle.tree_defs.specs.Queue.{put}
-use Rattle.block_core.specs.declared.waiting.Waiting.{Waiting}
-use Rattle.block_core.specs.Arrival.{weight}
-use Rattle.block_core.specs.Stores.{last_rank, head_of}
-use Rattle.block_core.specs.Block.{held, heap_order, queue_in, IsBlock, IsPassed, IsCounted}
+use Rattle.block_core.proofs.Prelude.{arith, ◌≡◌, sym, length, subst, ℕ, ◌∙◌, ap, [], refl, map, ◌+◌, ◌<◌, ◌∷◌, deque_items, heap_items, get_or, rules, ◌++◌, ◌≤◌, deque_len, ◌-◌, IsOk, deque_capacity, heap_len, nat_tests, KeepsHeap, IsPermutation, Reverse, put, weight, held, IsBlock, IsCounted, queue_in, IsPassed, heap_order, head_of, last_rank, Waiting}
 use Rattle.block_core.proofs.BlockLaws.{spilt_is, spilt_more, spilt_queue, stored_is, stored_more, stored_queue}
 use Rattle.block_core.proofs.PartLaws.{store_at, flow_at, within, passed_at, stores-set, spare_less, room_at, room_set}
 use Rattle.block_core.proofs.block.BlockPifoPifo.push.Goals as goal

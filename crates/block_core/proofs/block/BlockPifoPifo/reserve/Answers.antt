@@ -1,5 +1,4 @@
-use Rattle.std.proofs.Common.{arith, sym, subst, map, heap_items, deque_items}
-use Rattle.block_core.specs.Block.{IsBlock, IsCounted, held}
+use Rattle.block_core.proofs.Prelude.{arith, sym, subst, map, deque_items, heap_items, held, IsBlock, IsCounted}
 use Rattle.block_core.proofs.block.BlockPifoPifo.reserve.Goals as goal
 
 pub invariant_of-self : goal.invariant_of-self

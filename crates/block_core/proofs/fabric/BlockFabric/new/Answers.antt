@@ -1,10 +1,4 @@
-use Rattle.std.proofs.Common.{refl, sym, ap, subst, ◌∙◌, arith, List, ℕ}
-use Rattle.std.proofs.lemmas.List.{length-map}
-use Rattle.fabric_core.specs.Array.{nodes, flows_at}
-use Rattle.fabric_core.specs.Flow.{HasFlows}
-use Rattle.fabric_core.proofs.FabricLaws.{new_sound, new_empty}
-use Rattle.block_core.specs.Block.{Block}
-use Rattle.block_core.specs.BlockTree.{entries_of, pushes_of, flows_of}
+use Rattle.block_core.proofs.Prelude.{arith, sym, subst, ℕ, ◌∙◌, ap, refl, List, length-map, new_empty, new_sound, flows_at, nodes, HasFlows, Block, entries_of, flows_of, pushes_of}
 use Rattle.block_core.proofs.fabric.BlockFabric.new.Goals as goal
 
 pub invariant_of-result : goal.invariant_of-result

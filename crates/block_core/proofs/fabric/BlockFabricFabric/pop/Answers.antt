@@ -1,12 +1,4 @@
-use Rattle.std.proofs.Common.{◌≡◌, [], ℕ, List, Some, true≢false, refl, sym, subst, ap, ◌∙◌, arith, length}
-use Rattle.std.proofs.lemmas.List.{with_items_is}
-use Rattle.std.specs.Vec.{with_items}
-use Rattle.block_core.specs.Block.{Block}
-use Rattle.embed_defs.specs.Family.{Pops}
-use Rattle.fabric_core.specs.Array.{array_pop, queues_at, flows_at}
-use Rattle.fabric_core.specs.Flow.{HasFlows}
-use Rattle.block_core.specs.BlockTree.{BlockTree, block_queues, entries_of, pushes_of, flows_of}
-use Rattle.fabric_core.proofs.FabricLaws.{popped_sound, popped_queues, root_within, root_queue}
+use Rattle.block_core.proofs.Prelude.{arith, ◌≡◌, sym, length, subst, ℕ, ◌∙◌, ap, [], refl, List, Some, true≢false, with_items_is, with_items, Pops, popped_queues, popped_sound, root_queue, root_within, flows_at, queues_at, array_pop, HasFlows, Block, entries_of, flows_of, pushes_of, BlockTree, block_queues}
 use Rattle.block_core.proofs.fabric.BlockFabricFabric.pop.Goals as goal
 
 pub index-requires : goal.index-requires

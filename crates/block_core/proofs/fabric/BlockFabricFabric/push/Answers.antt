@@ -1,14 +1,5 @@
-use Rattle.std.proofs.Common.{◌≡◌, ◌≤◌, ◌+◌, ℕ, List, Some, sym, subst, ap, ◌∙◌, arith}
-use Rattle.std.proofs.lemmas.List.{with_items_is}
-use Rattle.std.specs.Vec.{with_items}
-use Rattle.std.specs.List.{AllByRecursion}
-use Rattle.block_core.specs.Block.{Block}
-use Rattle.embed_defs.specs.Family.{IsLeafAddress, push_along, less_room_along}
+use Rattle.block_core.proofs.Prelude.{arith, ◌≡◌, sym, subst, ℕ, ◌∙◌, ap, List, ◌+◌, ◌≤◌, Some, with_items_is, AllByRecursion, with_items, IsLeafAddress, less_room_along, push_along, few_kept, nodes_kept, pushed_queues, pushed_sound, flows_at, queues_at, ArrayTakesRoom, array_push, room_at, HasFlows, IsFlow, Block, entries_of, flows_of, pushes_of, BlockTree, block_queues, block_room, spare_of}
 use Rattle.embed_defs.specs.Spills.{spills_along}
-use Rattle.fabric_core.specs.Array.{array_push, queues_at, room_at, flows_at, ArrayTakesRoom}
-use Rattle.fabric_core.specs.Flow.{HasFlows, IsFlow}
-use Rattle.block_core.specs.BlockTree.{BlockTree, block_queues, block_room, entries_of, pushes_of, spare_of, flows_of}
-use Rattle.fabric_core.proofs.FabricLaws.{pushed_sound, pushed_queues, nodes_kept, few_kept}
 use Rattle.block_core.proofs.NodeSpills.{fewer_levels}
 use Rattle.block_core.proofs.fabric.BlockFabricFabric.push.Goals as goal
 

@@ -1,9 +1,4 @@
-use Rattle.std.proofs.Common.{ℕ, List, length, map, sym, ap, ◌∙◌, subst, arith}
-use Rattle.std.specs.Prelude.{slice_index}
-use Rattle.tree_defs.specs.Tree.{Address, LeadsToLeaf}
-use Rattle.embed_defs.specs.Images.{image_map}
-use Rattle.embed_defs.specs.Lift.{picked_ranks}
-use Rattle.embed_core.specs.Lanes.{IsLeafLane}
+use Rattle.embed_core.proofs.Prelude.{length, arith, sym, ◌∙◌, ap, List, subst, ℕ, map, slice_index, image_map, picked_ranks, Address, LeadsToLeaf, IsLeafLane}
 use Rattle.embed_core.proofs.DepthSteps.{picked-depths, depths-long, depths-within, leads-short}
 use Rattle.embed_core.proofs.leaf_table.LeafTable.pick.Goals as goal
 

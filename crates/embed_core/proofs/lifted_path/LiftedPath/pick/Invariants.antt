@@ -1,5 +1,4 @@
-use Rattle.std.proofs.Common.{◌≡◌, map, take}
-use Rattle.std.specs.Prelude.{slice_index}
+use Rattle.embed_core.proofs.Prelude.{◌≡◌, map, take, slice_index}
 use Rattle.embed_core.proofs.lifted_path.LiftedPath.pick.Given as goal
 
 abbrev pub invariant-loop-step : goal.invariant-loop-step

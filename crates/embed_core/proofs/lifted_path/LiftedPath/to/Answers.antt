@@ -1,9 +1,5 @@
-use Rattle.std.proofs.Common.{◌≡◌, ℕ, ◌+◌, List, length, sym, ap, ◌∙◌, arith}
-use Rattle.std.proofs.lemmas.List.{with_items_is}
-use Rattle.std.proofs.lemmas.List.FromFn.{length-range_with_len}
-use Rattle.std.specs.List.{range_with_len}
+use Rattle.embed_core.proofs.Prelude.{◌≡◌, length, arith, sym, ◌∙◌, ap, List, ◌+◌, ℕ, with_items_is, length-range_with_len, range_with_len, lift_ranks}
 use Rattle.std.specs.Vec.{with_items}
-use Rattle.embed_defs.specs.Lift.{lift_ranks}
 use Rattle.embed_core.proofs.lifted_path.LiftedPath.to.Goals as goal
 
 pub lift-requires-clause-whole : goal.lift-requires-clause-whole

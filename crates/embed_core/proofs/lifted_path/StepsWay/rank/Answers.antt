@@ -1,5 +1,4 @@
-use Rattle.std.proofs.Common.{◌+◌, ◌<◌, length, arith}
-use Rattle.std.proofs.lemmas.List.FromFn.{get_or-range_with_len, length-range_with_len}
+use Rattle.embed_core.proofs.Prelude.{length, arith, ◌+◌, ◌<◌, length-range_with_len, get_or-range_with_len}
 use Rattle.embed_core.proofs.lifted_path.StepsWay.rank.Goals as goal
 
 pub returns : goal.returns

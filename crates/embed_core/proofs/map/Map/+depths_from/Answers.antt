@@ -1,5 +1,4 @@
-use Rattle.std.proofs.Common.{rules, ◌∷◌, [], ◌++◌, ◌+◌, List, ℕ, drop, refl, sym, ap, ◌∙◌, arith, append_assoc}
-use Rattle.embed_core.specs.Lanes.{image_depths}
+use Rattle.embed_core.proofs.Prelude.{arith, sym, ◌∙◌, ap, List, ◌+◌, ℕ, [], refl, ◌∷◌, drop, ◌++◌, rules, append_assoc, image_depths}
 use Rattle.embed_core.proofs.LiftSteps.{step-within}
 use Rattle.embed_core.proofs.DepthSteps.{IsDepthStep, depth-down}
 use Rattle.embed_core.proofs.map.Map.+depths_from.Goals as goal

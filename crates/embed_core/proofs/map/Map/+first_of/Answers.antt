@@ -1,11 +1,4 @@
-use Rattle.std.proofs.Common.{rules, ◌≡◌, ◌<◌, ◌++◌, List, [], ◌∷◌, length, get_or, drop, map, ap, ◌∙◌, subst, arith}
-use Rattle.std.proofs.lemmas.List.{take_all, length-drop}
-use Rattle.tree_defs.specs.Tree.{nodes, trees_of, Address}
-use Rattle.tree_defs.specs.Topology.{IsBranched}
-use Rattle.tree_core.specs.Shape.{topology}
-use Rattle.tree_core.specs.TreeContents.{branch}
-use Rattle.tree_core.specs.declared.topo.Topo.{Topo}
-use Rattle.tree_core.proofs.NewTrees.{topology_inner, child_branched, child_smaller, are_branched}
+use Rattle.embed_core.proofs.Prelude.{◌≡◌, length, arith, ◌∙◌, ap, List, subst, ◌<◌, [], get_or, ◌∷◌, drop, ◌++◌, map, rules, length-drop, take_all, topology_inner, are_branched, child_branched, child_smaller, topology, branch, Topo, IsBranched, trees_of, Address, nodes}
 use Rattle.embed_core.proofs.PreorderMaps.{AreRead, first-image, leaf-left, next-enough, read-next, inner-tree, inner-left, few-trees}
 use Rattle.embed_core.proofs.map.Map.+first_of.Goals as goal
 

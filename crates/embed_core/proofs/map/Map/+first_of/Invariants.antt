@@ -1,6 +1,4 @@
-use Rattle.std.proofs.Common.{drop, map}
-use Rattle.tree_defs.specs.Tree.{nodes}
-use Rattle.tree_core.specs.Shape.{topology}
+use Rattle.embed_core.proofs.Prelude.{drop, map, topology, nodes}
 use Rattle.embed_core.proofs.PreorderMaps.{AreRead}
 use Rattle.embed_core.proofs.map.Map.+first_of.Given as goal
 

@@ -1,5 +1,4 @@
-use Rattle.std.proofs.Common.{◌≡◌, Option, Some, None, MatchOption, get_or, length, sym, subst, ◌<◌, ◌≤◌}
-use Rattle.tree_defs.specs.Tree.{Address}
+use Rattle.embed_core.proofs.Prelude.{◌≡◌, length, sym, subst, ◌<◌, ◌≤◌, get_or, None, Option, MatchOption, Some, Address}
 use Rattle.embed_core.proofs.MapSteps.{image-down, image-out}
 use Rattle.embed_core.proofs.map.Map.+image.Goals as goal
 

@@ -1,5 +1,4 @@
-use Rattle.std.proofs.Common.{rules, ◌≡◌, ◌-◌, ◌<◌, length, drop, sym, ap, ◌∙◌, arith, length-drop, length-take}
-use Rattle.tree_defs.specs.Tree.{root_of}
+use Rattle.embed_core.proofs.Prelude.{◌≡◌, length, arith, sym, ◌∙◌, ap, ◌<◌, drop, ◌-◌, rules, length-drop, length-take, root_of}
 use Rattle.embed_core.proofs.LiftSteps.{IsStep, step-down, step-within, ranks-behind, IsLast, last-at}
 use Rattle.embed_core.proofs.map.Map.+lift_from.Goals as goal
 

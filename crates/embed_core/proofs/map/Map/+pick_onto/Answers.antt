@@ -1,5 +1,4 @@
-use Rattle.std.proofs.Common.{rules, ◌≡◌, ℕ, ◌+◌, ◌<◌, [], ◌∷◌, ◌++◌, length, get_or, sym, ap, ◌∙◌, subst, arith, length-append}
-use Rattle.embed_core.specs.ImageOrder.{AreApart, IsOnSide}
+use Rattle.embed_core.proofs.Prelude.{◌≡◌, length, arith, sym, ◌∙◌, ap, ◌+◌, subst, ℕ, ◌<◌, [], get_or, ◌∷◌, ◌++◌, rules, length-append, AreApart, IsOnSide}
 use Rattle.embed_core.proofs.MapSteps.{some_child}
 use Rattle.embed_core.proofs.PickedChildren.{IsFound, found, root-short, some_side, apart, beside, side-begins}
 use Rattle.embed_core.proofs.map.Map.+pick_onto.Goals as goal

@@ -1,11 +1,4 @@
-use Rattle.std.proofs.Common.{rules, ◌≡◌, ◌-◌, ◌<◌, [], ◌∷◌, ◌++◌, length, take, refl, sym, ap, ◌∙◌, subst, arith}
-use Rattle.std.proofs.lemmas.List.{length-take-le}
-use Rattle.std.specs.Prelude.{IfOk}
-use Rattle.tree_defs.specs.Tree.{Tree, Address, trees_of, nodes, root_of}
-use Rattle.tree_core.specs.TreeContents.{branch}
-use Rattle.embed_defs.specs.Need.{FitsBelow, needs_at, HoldsNeeds}
-use Rattle.embed_defs.specs.Canonical.{image_part, children, canonical}
-use Rattle.embed_core.specs.Range.{levels_of}
+use Rattle.embed_core.proofs.Prelude.{◌≡◌, length, arith, sym, ◌∙◌, ap, subst, ◌<◌, [], refl, ◌∷◌, ◌++◌, take, ◌-◌, rules, length-take-le, IfOk, children, canonical, image_part, FitsBelow, needs_at, HoldsNeeds, branch, trees_of, Address, Tree, root_of, nodes, levels_of}
 use Rattle.embed_core.proofs.TargetArities.{positive}
 use Rattle.embed_defs.proofs.Digits.{length-digits}
 use Rattle.embed_defs.proofs.CanonicalPlaced.{own_height}

@@ -1,7 +1,4 @@
-use Rattle.std.proofs.Common.{◌≡◌, ◌++◌, drop}
-use Rattle.tree_defs.specs.Tree.{trees_of, nodes}
-use Rattle.embed_defs.specs.Canonical.{children}
-use Rattle.embed_core.specs.Range.{levels_of}
+use Rattle.embed_core.proofs.Prelude.{◌≡◌, drop, ◌++◌, children, trees_of, nodes, levels_of}
 use Rattle.embed_core.proofs.ChildImages.{images_from}
 use Rattle.embed_core.proofs.map.Map.+place.Given as goal
 

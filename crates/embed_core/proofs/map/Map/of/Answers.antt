@@ -1,8 +1,4 @@
-use Rattle.tree_defs.specs.Topology.{complete}
-use Rattle.tree_core.specs.Shape.{topology}
-use Rattle.embed_defs.specs.Embedding.{IsEmbedding}
-use Rattle.embed_defs.specs.Images.{image_map}
-use Rattle.embed_defs.specs.Preorder.{image_in, HoldsImages}
+use Rattle.embed_core.proofs.Prelude.{IsEmbedding, image_map, HoldsImages, image_in, topology, complete}
 use Rattle.embed_defs.proofs.ComposedMaps.{trees_of_images_embed}
 use Rattle.embed_defs.proofs.EmbeddedMaps.{embeddings_are_good_maps}
 use Rattle.embed_core.proofs.PreorderMaps.{holds-images}

@@ -1,13 +1,5 @@
-use Rattle.std.proofs.Common.{rules, ◌≡◌, ◌<◌, ◌≤◌, ◌++◌, [], ◌∷◌, List, length, get_or, take, map, subst, sym, ◌∙◌, arith}
-use Rattle.std.proofs.lemmas.List.{take_all}
-use Rattle.tree_defs.specs.Tree.{trees_of, nodes, root_of}
-use Rattle.tree_defs.specs.Topology.{IsBranched}
-use Rattle.tree_core.specs.Shape.{topology}
-use Rattle.embed_defs.specs.Need.{needs_at, enough}
-use Rattle.embed_core.specs.Range.{levels_of}
+use Rattle.embed_core.proofs.Prelude.{◌≡◌, length, arith, sym, ◌∙◌, List, subst, ◌<◌, [], ◌≤◌, get_or, ◌∷◌, ◌++◌, map, take, rules, take_all, needs_at, enough, topology_inner, are_branched, child_branched, child_smaller, topology, Topo, IsBranched, trees_of, root_of, nodes, levels_of}
 use Rattle.embed_core.proofs.TargetArities.{wide}
-use Rattle.tree_core.specs.declared.topo.Topo.{Topo}
-use Rattle.tree_core.proofs.NewTrees.{topology_inner, child_branched, child_smaller, are_branched}
 use Rattle.embed_core.proofs.ChildNeeds.{AreNeedsOfEach, one_more, needs-push, few_needs, all_needs}
 use Rattle.embed_core.proofs.needs.Needs.+of.Goals as goal
 

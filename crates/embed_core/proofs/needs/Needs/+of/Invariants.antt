@@ -1,8 +1,4 @@
-use Rattle.std.proofs.Common.{◌≡◌, take, map}
-use Rattle.tree_defs.specs.Tree.{trees_of, nodes}
-use Rattle.tree_core.specs.Shape.{topology}
-use Rattle.embed_defs.specs.Need.{needs_at}
-use Rattle.embed_core.specs.Range.{levels_of}
+use Rattle.embed_core.proofs.Prelude.{◌≡◌, map, take, needs_at, topology, trees_of, nodes, levels_of}
 use Rattle.embed_core.proofs.ChildNeeds.{AreNeedsOfEach}
 use Rattle.embed_core.proofs.needs.Needs.+of.Given as goal
 

@@ -1,5 +1,4 @@
-use Rattle.std.proofs.Common.{◌≡◌, ◌+◌, ◌*◌, ◌≤◌, ◌++◌, length, drop}
-use Rattle.event_json.specs.Objects.{numbers_text}
+use Rattle.event_json.proofs.Prelude.{◌≡◌, ◌++◌, ◌+◌, drop, ◌≤◌, length, ◌*◌, numbers_text}
 use Rattle.event_json.proofs.NumberLists.{later_numbers}
 use Rattle.event_json.proofs.line.Line.numbers.Given as goal
 

@@ -1,7 +1,4 @@
-use Rattle.std.proofs.Common.{[], ◌∷◌, ap, sym, subst, ◌∙◌}
-use Rattle.sched_defs.specs.Events.{Arrived}
-use Rattle.event_json.specs.Objects.{arrive_line}
-use Rattle.event_json.specs.JsonReports.{CountsOutcomes}
+use Rattle.event_json.proofs.Prelude.{[], ◌∙◌, ◌∷◌, ap, sym, subst, Arrived, CountsOutcomes, arrive_line}
 use Rattle.event_json.proofs.OneLine.{one_line, one_arrived}
 use Rattle.event_json.proofs.recorder.JsonReportRecorder.arrived.Goals as goal
 

@@ -1,9 +1,4 @@
-use Rattle.std.proofs.Common.{[], ◌∷◌, ap, sym, subst, ◌∙◌}
-use Rattle.std.proofs.lemmas.Result.{on_ok_weaker}
-use Rattle.sched_defs.specs.Events.{Departed}
-use Rattle.event_json.specs.Objects.{depart_line}
-use Rattle.event_json.specs.Json.{times_of}
-use Rattle.event_json.specs.JsonReports.{CountsOutcomes}
+use Rattle.event_json.proofs.Prelude.{[], ◌∙◌, ◌∷◌, ap, sym, subst, on_ok_weaker, Departed, times_of, CountsOutcomes, depart_line}
 use Rattle.event_json.proofs.OneLine.{one_line, one_departed}
 use Rattle.event_json.proofs.recorder.JsonReportRecorder.departed.Goals as goal
 

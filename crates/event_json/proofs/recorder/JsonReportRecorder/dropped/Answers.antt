@@ -1,8 +1,4 @@
-use Rattle.std.proofs.Common.{[], ◌∷◌, ap, sym, subst, ◌∙◌}
-use Rattle.std.proofs.lemmas.Result.{on_ok_weaker}
-use Rattle.sched_defs.specs.Events.{Dropped}
-use Rattle.event_json.specs.Objects.{drop_line}
-use Rattle.event_json.specs.JsonReports.{CountsOutcomes}
+use Rattle.event_json.proofs.Prelude.{[], ◌∙◌, ◌∷◌, ap, sym, subst, on_ok_weaker, Dropped, CountsOutcomes, drop_line}
 use Rattle.event_json.proofs.OneLine.{one_line, one_dropped}
 use Rattle.event_json.proofs.recorder.JsonReportRecorder.dropped.Goals as goal
 

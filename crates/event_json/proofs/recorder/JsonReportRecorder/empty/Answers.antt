@@ -1,7 +1,4 @@
-use Rattle.std.proofs.Common.{[], ◌∷◌, sym, subst}
-use Rattle.std.proofs.lemmas.Result.{on_ok_weaker}
-use Rattle.sched_defs.specs.Events.{Empty}
-use Rattle.event_json.specs.JsonReports.{CountsOutcomes}
+use Rattle.event_json.proofs.Prelude.{[], ◌∷◌, sym, subst, on_ok_weaker, Empty, CountsOutcomes}
 use Rattle.event_json.proofs.OneLine.{one_line, one_empty}
 use Rattle.event_json.proofs.recorder.JsonReportRecorder.empty.Goals as goal
 

@@ -1,8 +1,4 @@
-use Rattle.std.proofs.Common.{◌≡◌, rules, sym, arith, ap, ◌∙◌, List, ℕ}
-use Rattle.std.proofs.lemmas.List.{length-map}
-use Rattle.pifo_core.specs.Sorted.{Contents}
-use Rattle.fabric_core.specs.Array.{nodes}
-use Rattle.fabric_core.specs.Flat.{entries_of, pushes_of}
+use Rattle.fabric_core.proofs.Prelude.{ℕ, arith, ◌≡◌, List, sym, ap, ◌∙◌, rules, length-map, Contents, nodes, entries_of, pushes_of}
 use Rattle.fabric_core.proofs.FabricLaws.{new_sound, new_empty}
 use Rattle.fabric_core.proofs.flat.FlatFabricFabric.configure.Goals as goal
 

@@ -1,10 +1,4 @@
-use Rattle.std.proofs.Common.{◌≡◌, [], ℕ, List, Some, true≢false, refl, sym, subst, ap, ◌∙◌, arith, length}
-use Rattle.std.proofs.lemmas.List.{with_items_is}
-use Rattle.std.specs.Vec.{with_items}
-use Rattle.pifo_core.specs.Sorted.{Contents}
-use Rattle.embed_defs.specs.Family.{Pops}
-use Rattle.fabric_core.specs.Array.{array_pop, queues_at}
-use Rattle.fabric_core.specs.Flat.{Flat, flat_queues, entries_of, pushes_of}
+use Rattle.fabric_core.proofs.Prelude.{ℕ, arith, ◌≡◌, List, [], length, sym, ap, ◌∙◌, subst, refl, Some, true≢false, with_items_is, with_items, Pops, Contents, queues_at, array_pop, entries_of, pushes_of, Flat, flat_queues}
 use Rattle.fabric_core.proofs.FabricLaws.{popped_sound, popped_queues, root_within, root_queue}
 use Rattle.fabric_core.proofs.flat.FlatFabricFabric.pop.Goals as goal
 

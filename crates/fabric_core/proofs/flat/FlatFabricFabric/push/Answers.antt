@@ -1,11 +1,4 @@
-use Rattle.std.proofs.Common.{◌≤◌, ◌+◌, ℕ, List, sym, subst, ap, ◌∙◌, arith}
-use Rattle.std.proofs.lemmas.List.{with_items_is}
-use Rattle.std.specs.Vec.{with_items}
-use Rattle.std.specs.List.{AllByRecursion}
-use Rattle.pifo_core.specs.Sorted.{Contents}
-use Rattle.embed_defs.specs.Family.{IsLeafAddress, push_along, less_room_along}
-use Rattle.fabric_core.specs.Array.{array_push, room_at, ArrayTakesRoom}
-use Rattle.fabric_core.specs.Flat.{Flat, flat_queues, flat_room, entries_of, pushes_of, spare_of}
+use Rattle.fabric_core.proofs.Prelude.{ℕ, arith, List, ◌+◌, sym, ap, ◌∙◌, subst, ◌≤◌, with_items_is, AllByRecursion, with_items, IsLeafAddress, push_along, less_room_along, Contents, room_at, array_push, ArrayTakesRoom, entries_of, pushes_of, Flat, flat_queues, flat_room, spare_of}
 use Rattle.fabric_core.proofs.FabricLaws.{pushed_sound, pushed_queues}
 use Rattle.fabric_core.proofs.flat.FlatFabricFabric.push.Goals as goal
 

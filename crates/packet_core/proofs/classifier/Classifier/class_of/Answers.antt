@@ -1,5 +1,4 @@
-use Rattle.std.proofs.Common.{◌<◌, length, sym, ◌∙◌, arith}
-use Rattle.packet_core.specs.Numbers.{numbers_of, is_met}
+use Rattle.packet_core.proofs.Prelude.{◌∙◌, sym, arith, length, ◌<◌, numbers_of, is_met}
 use Rattle.packet_core.proofs.WithinBounds.{found-there}
 use Rattle.packet_core.proofs.classifier.Classifier.class_of.Goals as goal
 

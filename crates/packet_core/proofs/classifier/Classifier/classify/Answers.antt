@@ -1,7 +1,4 @@
-use Rattle.std.proofs.Common.{sym, ◌∙◌, subst}
-use Rattle.packet_defs.specs.declared.fields.Fields.{Fields}
-use Rattle.packet_core.specs.Classes.{IsSorted}
-use Rattle.packet_core.specs.Classifier.{policy_of}
+use Rattle.packet_core.proofs.Prelude.{◌∙◌, sym, subst, Fields, IsSorted, policy_of}
 use Rattle.packet_core.proofs.FieldsThere.{raw-ipv4, frame-link}
 use Rattle.packet_core.proofs.classifier.Classifier.classify.Goals as goal
 

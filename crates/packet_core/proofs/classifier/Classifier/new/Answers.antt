@@ -1,9 +1,4 @@
-use Rattle.std.proofs.Common.{map, ap, ◌∙◌, arith, length}
-use Rattle.std.proofs.lemmas.List.{length-map}
-use Rattle.policy_core.specs.declared.parts.Class.{Class}
-use Rattle.policy_core.specs.Parts.{class_in}
-use Rattle.packet_core.specs.Conditions.{meets_all}
-use Rattle.packet_core.specs.Numbers.{numbers_of, is_met}
+use Rattle.packet_core.proofs.Prelude.{◌∙◌, ap, arith, length, map, length-map, class_in, Class, meets_all, numbers_of, is_met}
 use Rattle.packet_core.proofs.WithinBounds.{one_more}
 use Rattle.packet_core.proofs.Prepare.{SoFar, are-same, gives-each, as-many, prepared-all}
 use Rattle.packet_core.proofs.classifier.Classifier.new.Goals as goal

@@ -1,8 +1,4 @@
-use Rattle.std.proofs.Common.{◌+◌, refl, subst}
-use Rattle.packet_defs.specs.declared.fields.Fields.{Fields}
-use Rattle.packet_core.specs.Classes.{IsSorted}
-use Rattle.packet_core.specs.Classifier.{policy_of}
-use Rattle.packet_defs.specs.Internet.{ipv4_at, ipv6_at}
+use Rattle.packet_core.proofs.Prelude.{subst, refl, ◌+◌, ipv4_at, ipv6_at, Fields, IsSorted, policy_of}
 use Rattle.packet_core.proofs.FieldsThere.{frame-is}
 use Rattle.packet_core.proofs.classifier.Classifier.put_ethernet.Goals as goal
 

@@ -1,7 +1,4 @@
-use Rattle.std.proofs.Common.{sym, ◌∙◌, subst}
-use Rattle.packet_defs.specs.declared.fields.Fields.{Fields}
-use Rattle.packet_core.specs.Classes.{IsSorted}
-use Rattle.packet_core.specs.Classifier.{policy_of}
+use Rattle.packet_core.proofs.Prelude.{◌∙◌, sym, subst, Fields, IsSorted, policy_of}
 use Rattle.packet_core.proofs.FieldsThere.{ipv6-there, ipv6-absent}
 use Rattle.packet_core.proofs.classifier.Classifier.put_ipv6.Goals as goal
 

@@ -1,8 +1,4 @@
-use Rattle.std.proofs.Common.{◌<◌, arith}
-use Rattle.pcap_defs.specs.Record.{most_records}
-use Rattle.pcap_core.specs.declared.frame.LinkedFrame.{LinkedFrame}
-use Rattle.pcap_core.specs.Readers.{head_of, records_given, captured_of, rest_left}
-use Rattle.pcap_core.specs.Left.{head_read}
+use Rattle.pcap_core.proofs.Prelude.{arith, ◌<◌, most_records, head_read, head_of, records_given, rest_left, captured_of, LinkedFrame}
 use Rattle.pcap_core.proofs.CapturesLeft.{comes-at, ends, leaves, halts}
 use Rattle.pcap_core.proofs.capture.ReaderCaptureReader.next_in_place.Goals as goal
 

@@ -1,8 +1,4 @@
-use Rattle.std.proofs.Common.{◌≡◌, ap}
-use Rattle.std.specs.Option.{option_map_or}
-use Rattle.std.specs.Prelude.{false}
-use Rattle.pcap_defs.specs.declared.head.Head.{Head}
-use Rattle.pcap_core.specs.Readers.{is_big}
+use Rattle.pcap_core.proofs.Prelude.{◌≡◌, ap, false, option_map_or, Head, is_big}
 use Rattle.pcap_core.proofs.Records.{record-sound}
 use Rattle.pcap_core.proofs.reader.Reader.next_in_place.Goals as goal
 

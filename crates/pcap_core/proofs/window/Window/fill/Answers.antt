@@ -1,5 +1,4 @@
-use Rattle.std.proofs.Common.{◌≡◌, ◌-◌, length, take, ap, sym, ◌∙◌, arith}
-use Rattle.std.proofs.lemmas.List.{with_items_is}
+use Rattle.pcap_core.proofs.Prelude.{◌≡◌, ap, arith, ◌∙◌, sym, length, ◌-◌, take, with_items_is}
 use Rattle.pcap_core.proofs.Windows.{fill-end}
 use Rattle.pcap_core.proofs.window.Window.fill.Goals as goal
 

@@ -1,7 +1,4 @@
-use Rattle.std.proofs.Common.{◌≤◌, ◌-◌}
-use Rattle.pcap_core.specs.Rest.{rest_of, Serves}
-use Rattle.pcap_core.specs.Held.{held}
-use Rattle.pcap_core.specs.Passed.{Passes}
+use Rattle.pcap_core.proofs.Prelude.{◌-◌, ◌≤◌, held, Passes, rest_of, Serves}
 use Rattle.pcap_core.proofs.window.Window.pass.Given as goal
 
 abbrev pub invariant-loop-rest : goal.invariant-loop-rest

@@ -1,6 +1,4 @@
-use Rattle.std.proofs.Common.{◌≤◌, ◌-◌, ◌++◌, vec_len}
-use Rattle.pcap_core.specs.Rest.{rest_of, TakesFront, Serves}
-use Rattle.pcap_core.specs.Held.{held}
+use Rattle.pcap_core.proofs.Prelude.{◌++◌, ◌-◌, ◌≤◌, vec_len, held, TakesFront, rest_of, Serves}
 use Rattle.pcap_core.proofs.window.Window.take.Given as goal
 
 abbrev pub invariant-loop-into : goal.invariant-loop-into

@@ -1,5 +1,4 @@
-use Rattle.std.proofs.Common.{◌∙◌, sym}
-use Rattle.pcapng_core.specs.Readers.{carry_of, rest_left}
+use Rattle.pcapng_core.proofs.Prelude.{sym, ◌∙◌, carry_of, rest_left}
 use Rattle.pcapng_core.proofs.CapturesLeft.{one-less-at, ends-none, leaves-none, halts}
 use Rattle.pcapng_core.proofs.capture.NgReaderCaptureReader.pass.Goals as goal
 

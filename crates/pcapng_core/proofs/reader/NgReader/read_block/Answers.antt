@@ -1,20 +1,8 @@
-use Rattle.std.proofs.Common.{◌≡◌, ◌<◌, ◌+◌, ◌++◌, length, List, ℕ, Option, Some, None, subst}
-use Rattle.std.specs.Prelude.{IfSome}
-use Rattle.pcap_core.specs.Rest.{rest_of}
-use Rattle.pcapng_defs.specs.Fault.{BlockFault, block_cut}
-use Rattle.pcapng_defs.specs.NgCapture.{front_of, broken}
-use Rattle.pcapng_core.specs.Blocks.{IsEndFault}
-use Rattle.pcapng_core.specs.Bodies.{front_len}
-use Rattle.pcapng_core.specs.Carries.{carried_of}
-use Rattle.pcapng_core.specs.Faults.{fault_in}
-use Rattle.pcap_core.specs.Held.{held}
-use Rattle.pcapng_core.specs.Readers.{carry_of, rest_left}
+use Rattle.pcapng_core.proofs.Prelude.{◌≡◌, ℕ, List, length, ◌+◌, Option, Some, subst, ◌<◌, None, IfSome, ◌++◌, taken-more, held, rest_of, BlockFault, block_cut, broken, front_of, IsEndFault, front_len, carried_of, fault_in, carry_of, rest_left, NgFault}
 use Rattle.pcapng_core.specs.declared.body.Body.TheVariants as body
-use Rattle.pcapng_core.specs.declared.fault.NgFault.{NgFault}
 use Rattle.pcapng_core.proofs.FoundBlocks.{some-map, blocks-taken, blocks-faulty, blocks-cut, blocks-ended}
 use Rattle.pcapng_core.proofs.Refusals.{err-passed}
 use Rattle.pcapng_core.proofs.Rooms.{body-room}
-use Rattle.pcap_core.proofs.Takes.{taken-more}
 use Rattle.pcapng_core.proofs.reader.NgReader.read_block.Goals as goal
 
 pub returns-in_err-body-clause-fault : goal.returns-in_err-body-clause-fault

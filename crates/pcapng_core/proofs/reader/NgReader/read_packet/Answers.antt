@@ -1,11 +1,4 @@
-use Rattle.std.proofs.Common.{◌≡◌, Some, None, arith, ◌∙◌}
-use Rattle.std.specs.Prelude.{IfSome}
-use Rattle.std.proofs.lemmas.Grind.{common_steps}
-use Rattle.pcapng_defs.specs.NgCapture.{front_of, broken}
-use Rattle.pcapng_core.specs.Bodies.{packet_told}
-use Rattle.pcapng_core.specs.Faults.{fault_in}
-use Rattle.pcapng_core.specs.Readers.{carry_of, rest_left, IsOver}
-use Rattle.pcapng_core.specs.declared.fault.NgFault.{NgFault}
+use Rattle.pcapng_core.proofs.Prelude.{◌≡◌, ◌∙◌, arith, Some, None, IfSome, common_steps, broken, front_of, packet_told, fault_in, carry_of, rest_left, IsOver, NgFault}
 use Rattle.pcapng_core.proofs.FoundBlocks.{some-map}
 use Rattle.pcapng_core.proofs.Packets.{goes-more, goes-over, goes-broken}
 use Rattle.pcapng_core.proofs.Refusals.{err-passed}

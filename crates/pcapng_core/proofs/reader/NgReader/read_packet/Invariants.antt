@@ -1,7 +1,4 @@
-use Rattle.std.proofs.Common.{◌≡◌, ◌≤◌, ◌-◌, []}
-use Rattle.pcap_core.specs.Rest.{Serves}
-use Rattle.pcapng_defs.specs.NgCapture.{most_blocks}
-use Rattle.pcapng_core.specs.Readers.{carry_of, rest_left, packets_given, is_live, GoesOn}
+use Rattle.pcapng_core.proofs.Prelude.{◌≡◌, ◌≤◌, ◌-◌, [], Serves, most_blocks, carry_of, rest_left, GoesOn, is_live, packets_given}
 use Rattle.pcapng_core.proofs.reader.NgReader.read_packet.Given as goal
 
 abbrev pub invariant-loop-packet : goal.invariant-loop-packet

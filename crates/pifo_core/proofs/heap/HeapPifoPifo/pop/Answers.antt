@@ -1,7 +1,4 @@
-use Rattle.std.proofs.Common.{◌≡◌, [], ◌∷◌, true, false, rules, ap, sym, ◌∙◌, arith, length, heap_items, heap_len, Some}
-use Rattle.tree_defs.specs.Queue.{take_least}
-use Rattle.pifo_core.specs.Held.{queue_of}
-use Rattle.pifo_core.specs.Heaped.{held_of_both, leads, TopIsFirst}
+use Rattle.pifo_core.proofs.Prelude.{arith, ◌≡◌, ap, ◌∙◌, false, length, [], sym, true, Some, ◌∷◌, rules, heap_items, heap_len, take_least, held_of_both, TopIsFirst, leads, queue_of}
 use Rattle.pifo_core.proofs.HeapLaws.{queue_of-led, IsHeaped-led, queue_of-neither, queue_of-popped, IsHeaped-popped}
 use Rattle.pifo_core.proofs.heap.HeapPifoPifo.pop.Goals as goal
 

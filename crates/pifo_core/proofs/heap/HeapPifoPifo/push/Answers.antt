@@ -1,11 +1,6 @@
-use Rattle.std.proofs.Common.{◌≡◌, ◌≤◌, refl, ap, ◌∙◌, ◌+◌, arith, heap_items, heap_len, deque_len}
+use Rattle.pifo_core.proofs.Prelude.{arith, ◌≡◌, ap, ◌∙◌, ◌≤◌, refl, ◌+◌, deque_len, heap_items, heap_len, Reverse, put, held_of_both, IsHeaped, queue_of, Held}
 use Rattle.std.specs.BinaryHeap.{heap_capacity}
 use Rattle.std.specs.VecDeque.{deque_capacity}
-use Rattle.std.specs.declared.cmp.Reverse.{Reverse}
-use Rattle.tree_defs.specs.Queue.{put}
-use Rattle.pifo_core.specs.declared.held.Held.{Held}
-use Rattle.pifo_core.specs.Held.{queue_of}
-use Rattle.pifo_core.specs.Heaped.{held_of_both, IsHeaped}
 use Rattle.pifo_core.proofs.HeapLaws.{queue_of-followed, IsHeaped-followed, queue_of-pushed, IsHeaped-pushed}
 use Rattle.pifo_core.proofs.heap.HeapPifoPifo.push.Goals as goal
 use Rattle.pifo_core.proofs.heap.HeapPifoPifo.push.Goals.{in-Some, in-None}

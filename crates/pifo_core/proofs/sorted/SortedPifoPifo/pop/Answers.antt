@@ -1,6 +1,4 @@
-use Rattle.std.proofs.Common.{◌≡◌, ◌<◌, [], ap, sym, ◌∙◌, length, arith, Some, remove}
-use Rattle.std.proofs.lemmas.Bool.Decides.{nat_tests}
-use Rattle.pifo_core.specs.Held.{queue_of}
+use Rattle.pifo_core.proofs.Prelude.{arith, ◌≡◌, ap, ◌∙◌, length, ◌<◌, [], sym, Some, remove, nat_tests, queue_of}
 use Rattle.pifo_core.proofs.HeldLaws.{taking, queue_of-none, queue_of-removed}
 use Rattle.pifo_core.proofs.sorted.SortedPifoPifo.pop.Goals as goal
 

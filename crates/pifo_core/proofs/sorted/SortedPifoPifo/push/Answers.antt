@@ -1,7 +1,4 @@
-use Rattle.std.proofs.Common.{◌≡◌, ◌≤◌, ◌-◌, ap, ◌∙◌, arith, insert, IsOk, vec_len, vec_capacity}
-use Rattle.tree_defs.specs.Queue.{put}
-use Rattle.pifo_core.specs.declared.held.Held.{Held}
-use Rattle.pifo_core.specs.Held.{queue_of}
+use Rattle.pifo_core.proofs.Prelude.{arith, ◌≡◌, ap, ◌∙◌, ◌≤◌, insert, ◌-◌, IsOk, vec_capacity, vec_len, put, queue_of, Held}
 use Rattle.pifo_core.proofs.HeldLaws.{queue_of-inserted, IsKept-inserted}
 use Rattle.pifo_core.proofs.sorted.SortedPifoPifo.push.Goals as goal
 

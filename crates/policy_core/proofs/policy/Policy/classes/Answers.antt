@@ -1,11 +1,5 @@
-use Rattle.std.proofs.Common.{subst, sym}
-use Rattle.std.specs.Prelude.{List, ◌<◌, ◌≤◌, length}
-use Rattle.std.specs.List.{AllByRecursion}
-use Rattle.tree_defs.specs.Tree.{nodes}
+use Rattle.policy_core.proofs.Prelude.{List, sym, subst, length, ◌<◌, ◌≤◌, AllByRecursion, most_classes, Resolved, nodes, HasCatchAll}
 use Rattle.policy_core.specs.declared.parts.Class.{Class}
-use Rattle.policy_core.specs.Parts.{HasCatchAll}
-use Rattle.policy_rules.specs.Clauses.{most_classes}
-use Rattle.policy_rules.specs.Resolved.{Resolved}
 use Rattle.policy_core.proofs.PolicyParts.{leaves-there}
 use Rattle.policy_core.proofs.policy.Policy.classes.Goals as goal
 

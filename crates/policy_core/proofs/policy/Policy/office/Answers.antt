@@ -1,7 +1,4 @@
-use Rattle.std.proofs.Common.{subst, List}
-use Rattle.policy_text_defs.specs.Sense.{Entry}
-use Rattle.policy_rules.specs.Entries.{entries_of}
-use Rattle.policy_rules.specs.Resolved.{IsResolved}
+use Rattle.policy_core.proofs.Prelude.{List, subst, entries_of, IsResolved, Entry}
 use Rattle.policy_core.proofs.OfficeLines.{written, on-lines, only-want}
 use Rattle.policy_core.proofs.OfficeStatements.{office-accepted}
 use Rattle.policy_core.proofs.policy.Policy.office.Goals as goal

@@ -1,6 +1,4 @@
-use Rattle.std.proofs.Common.{◌∙◌, ◌≤◌, subst}
-use Rattle.tree_defs.specs.Tree.{depth, most_levels}
-use Rattle.tree_defs.specs.Topology.{Topology, IsBranched}
+use Rattle.policy_core.proofs.Prelude.{subst, ◌∙◌, ◌≤◌, Topology, IsBranched, depth, most_levels}
 use Rattle.policy_core.proofs.PolicyParts.{topology-is, few-nodes}
 use Rattle.policy_core.proofs.policy.Policy.topo.Goals as goal
 

@@ -1,6 +1,4 @@
-use Rattle.std.proofs.Common.{subst}
-use Rattle.policy_defs.specs.BuiltIn.{AreBuiltIn}
-use Rattle.policy_rules.specs.Resolved.{Resolved}
+use Rattle.policy_core.proofs.Prelude.{subst, AreBuiltIn, Resolved}
 use Rattle.policy_core.proofs.PolicyParts.{within, own-station, using-is}
 use Rattle.policy_core.proofs.policy.Policy.using.Goals as goal
 

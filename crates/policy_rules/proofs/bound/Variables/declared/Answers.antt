@@ -1,7 +1,4 @@
-use Rattle.std.proofs.Common.{◌≤◌, List, length, sym, subst}
-use Rattle.policy_rules.specs.Names.{Name}
-use Rattle.policy_rules.specs.Clauses.{most_variables}
-use Rattle.policy_rules.specs.Entries.{entries_of}
+use Rattle.policy_rules.proofs.Prelude.{List, sym, length, subst, ◌≤◌, most_variables, entries_of, Name}
 use Rattle.policy_rules.proofs.BodyLines.{keeps_line, eaches_line}
 use Rattle.policy_rules.proofs.SoundBodies.{few_keeps_at, few_eaches_at}
 use Rattle.policy_rules.proofs.bound.Variables.declared.Goals as goal

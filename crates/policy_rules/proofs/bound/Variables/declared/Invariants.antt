@@ -1,6 +1,4 @@
-use Rattle.std.proofs.Common.{◌≡◌, take}
-use Rattle.policy_rules.specs.Names.{declared, keep_name, each_name}
-use Rattle.policy_rules.specs.Entries.{entries_of}
+use Rattle.policy_rules.proofs.Prelude.{◌≡◌, take, entries_of, declared, each_name, keep_name}
 use Rattle.policy_rules.proofs.bound.Variables.declared.Given as goal
 
 abbrev pub invariant-loop-statement : goal.invariant-loop-statement

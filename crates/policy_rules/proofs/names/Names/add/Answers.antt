@@ -1,9 +1,4 @@
-use Rattle.std.proofs.Common.{rules, ◌≡◌, ◌∙◌, ap, sym, subst, List, ℕ, [], ◌∷◌, ◌++◌, length, Some, false}
-use Rattle.std.specs.BTreeMap.{UpdatesBy}
-use Rattle.std.specs.Cmp.Lexicographic.{slice_cmp}
-use Rattle.std.specs.Ordering.{nat_cmp}
-use Rattle.policy_rules.specs.Names.{has}
-use Rattle.policy_rules.specs.Places.{texts, ArePlaces}
+use Rattle.policy_rules.proofs.Prelude.{◌∙◌, ap, List, ◌≡◌, sym, ℕ, [], ◌∷◌, ◌++◌, false, length, subst, Some, rules, UpdatesBy, slice_cmp, nat_cmp, has, ArePlaces, texts}
 use Rattle.policy_rules.proofs.Texts.{ArePlaces-push}
 use Rattle.policy_rules.proofs.names.Names.add.Goals as goal
 

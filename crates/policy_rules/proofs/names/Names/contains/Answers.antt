@@ -1,5 +1,4 @@
-use Rattle.std.proofs.Common.{◌≡◌, ◌∙◌, ap, subst, List, ℕ, is_some}
-use Rattle.policy_rules.specs.Names.{has}
+use Rattle.policy_rules.proofs.Prelude.{◌∙◌, ap, List, ◌≡◌, ℕ, subst, is_some, has}
 use Rattle.policy_rules.proofs.Texts.{has-place}
 use Rattle.policy_rules.proofs.names.Names.contains.Goals as goal
 

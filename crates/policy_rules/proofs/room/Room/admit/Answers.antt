@@ -1,5 +1,4 @@
-use Rattle.std.proofs.Common.{ap, refl, inl, inr, arith}
-use Rattle.policy_text_defs.specs.Sense.{sense_of}
+use Rattle.policy_rules.proofs.Prelude.{ap, refl, arith, inl, inr, sense_of}
 use Rattle.policy_rules.proofs.RoomLemmas.{room_for, room_opened}
 use Rattle.policy_rules.proofs.room.Room.admit.Goals as goal
 

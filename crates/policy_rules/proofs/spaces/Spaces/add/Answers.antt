@@ -1,6 +1,4 @@
-use Rattle.std.proofs.Common.{ap, refl, inl, inr, ◌∙◌}
-use Rattle.policy_text_defs.specs.Sense.{sense_of}
-use Rattle.policy_rules.specs.KnownNames.{with_name}
+use Rattle.policy_rules.proofs.Prelude.{◌∙◌, ap, refl, inl, inr, sense_of, with_name}
 use Rattle.policy_rules.proofs.SpaceLemmas.{transaction-more, class-more, node-more, nothing_more}
 use Rattle.policy_rules.proofs.spaces.Spaces.add.Goals as goal
 

@@ -1,7 +1,4 @@
-use Rattle.std.proofs.Common.{ap, sym, inl, inr, ◌∙◌}
-use Rattle.policy_text_defs.specs.Sense.{sense_of}
-use Rattle.policy_rules.specs.Names.{has}
-use Rattle.policy_rules.specs.Clauses.{is_declared}
+use Rattle.policy_rules.proofs.Prelude.{◌∙◌, ap, sym, inl, inr, sense_of, is_declared, has}
 use Rattle.policy_rules.proofs.spaces.Spaces.is_declared.Goals as goal
 
 pub returns-in-Keep : goal.returns-in-Keep

@@ -1,5 +1,4 @@
-use Rattle.std.proofs.Common.{◌∙◌, sym, ap, not, ◌&&◌}
-use Rattle.policy_rules.specs.Names.{has}
+use Rattle.policy_rules.proofs.Prelude.{◌∙◌, ap, sym, not, ◌&&◌, has}
 use Rattle.policy_rules.proofs.TallyLaws.{once}
 use Rattle.policy_rules.proofs.tally.Tally.is_once.Goals as goal
 

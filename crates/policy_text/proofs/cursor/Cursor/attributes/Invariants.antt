@@ -1,8 +1,6 @@
-use Rattle.std.proofs.Common.{length}
-use Rattle.text_core.specs.Glyphs.{glyphs_of}
+use Rattle.policy_text.proofs.Prelude.{length, Repeats, glyphs_of}
 use Rattle.policy_text_defs.specs.Reading as spec
 use Rattle.policy_text_defs.specs.StatementReading as forms
-use Rattle.policy_text_defs.proofs.RepeatLoops.{Repeats}
 use Rattle.policy_text.proofs.cursor.Cursor.attributes.Given as goal
 
 abbrev pub invariant-loop-attribute : goal.invariant-loop-attribute

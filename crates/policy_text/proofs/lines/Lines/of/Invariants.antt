@@ -1,6 +1,4 @@
-use Rattle.std.proofs.Common.{◌≡◌, ◌++◌, map, length}
-use Rattle.policy_text_defs.specs.Sense.{sense_of, numbered}
-use Rattle.policy_text.specs.Entries.{entry_of}
+use Rattle.policy_text.proofs.Prelude.{◌≡◌, length, ◌++◌, map, numbered, sense_of, entry_of}
 use Rattle.policy_text.proofs.lines.Lines.of.Given as goal
 
 abbrev pub invariant-loop-statement : goal.invariant-loop-statement

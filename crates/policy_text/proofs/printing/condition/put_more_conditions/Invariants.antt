@@ -1,5 +1,4 @@
-use Rattle.std.proofs.Common.{◌≡◌, ◌++◌, drop}
-use Rattle.policy_text_defs.specs.Canonical.{more_conditions_text}
+use Rattle.policy_text.proofs.Prelude.{◌≡◌, ◌++◌, drop, more_conditions_text}
 use Rattle.policy_text.proofs.printing.condition.put_more_conditions.Given as goal
 
 abbrev pub invariant-loop-condition : goal.invariant-loop-condition

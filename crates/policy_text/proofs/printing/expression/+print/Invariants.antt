@@ -1,5 +1,4 @@
-use Rattle.std.proofs.Common.{◌+◌, ◌*◌}
-use Rattle.policy_text_defs.specs.Phrase.{phrase_of}
+use Rattle.policy_text.proofs.Prelude.{◌+◌, ◌*◌, phrase_of}
 use Rattle.policy_text.proofs.PrintMeasure.{parts}
 use Rattle.policy_text.proofs.printing.expression.+print.Given as goal
 

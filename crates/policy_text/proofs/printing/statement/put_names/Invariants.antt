@@ -1,5 +1,4 @@
-use Rattle.std.proofs.Common.{◌≡◌, ◌++◌, drop}
-use Rattle.policy_text_defs.specs.Canonical.{names_text}
+use Rattle.policy_text.proofs.Prelude.{◌≡◌, ◌++◌, drop, names_text}
 use Rattle.policy_text.proofs.printing.statement.put_names.Given as goal
 
 abbrev pub invariant-loop-name : goal.invariant-loop-name

@@ -1,5 +1,4 @@
-use Rattle.rank_defs.specs.Programs.{program_of}
-use Rattle.rank_defs.proofs.SafeSteps.{always-tame}
+use Rattle.range_core.proofs.Prelude.{always-tame, program_of}
 use Rattle.range_core.proofs.checked.Checked.transaction.Goals as goal
 
 pub returns-clause-tame : goal.returns-clause-tame

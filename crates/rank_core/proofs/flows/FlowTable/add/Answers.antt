@@ -1,14 +1,4 @@
-use Rattle.std.proofs.Common.{arith, ◌≡◌, ◌∙◌, ◌++◌, ◌∷◌, [], ℕ, List, Vec, length, Some, sym, ap, subst}
-use Rattle.std.specs.Prelude.{slice_get}
-use Rattle.std.specs.declared.alloc.Global.{Global}
-use Rattle.std.specs.Map.{lookup}
-use Rattle.std.specs.BTreeMap.{BTreeMap, Updates}
-use Rattle.std.proofs.lemmas.List.{length-append}
-use Rattle.rank_defs.specs.declared.environment.FlowKey.{FlowKey}
-use Rattle.rank_core.specs.declared.flows.OrderedKey.{OrderedKey}
-use Rattle.rank_core.specs.contracts.flows.OrderedKeyOrd.TheImpl.{cmp-value}
-use Rattle.rank_core.specs.FlowKeys.{has_key}
-use Rattle.rank_core.specs.Flows.{numbers_at}
+use Rattle.rank_core.proofs.Prelude.{◌≡◌, sym, subst, ◌∙◌, List, ap, arith, [], length, ℕ, ◌∷◌, Some, Vec, ◌++◌, length-append, BTreeMap, Updates, lookup, slice_get, Global, FlowKey, has_key, numbers_at, cmp-value, OrderedKey}
 use Rattle.rank_core.proofs.FlowPlaces.{still-there, still-found, numbers-last, numbers-before}
 use Rattle.rank_core.proofs.flows.FlowTable.add.Goals as goal
 

@@ -1,5 +1,4 @@
-use Rattle.std.proofs.Common.{arith, IsSome, sym, subst}
-use Rattle.rank_core.specs.Flows.{numbers_at}
+use Rattle.rank_core.proofs.Prelude.{sym, subst, arith, IsSome, numbers_at}
 use Rattle.rank_core.proofs.FlowPlaces.{place-within, has-numbers}
 use Rattle.rank_core.proofs.flows.FlowTable.reserve.Goals as goal
 

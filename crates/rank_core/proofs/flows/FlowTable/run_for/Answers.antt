@@ -1,9 +1,4 @@
-use Rattle.std.proofs.Common.{arith, ◌≡◌, [], IsSome, sym, subst}
-use Rattle.rank_defs.specs.Shapes.{IsMemoryInRange}
-use Rattle.rank_defs.specs.Programs.{program_of}
-use Rattle.rank_core.specs.Flows.{numbers_at, place_of}
-use Rattle.rank_core.specs.Node.{kept_or}
-use Rattle.rank_core.specs.Scope.{memory, run_of}
+use Rattle.rank_core.proofs.Prelude.{◌≡◌, sym, subst, arith, [], IsSome, program_of, IsMemoryInRange, numbers_at, place_of, kept_or, memory, run_of}
 use Rattle.rank_core.proofs.FlowPlaces.{numbers-others, place-within, has-numbers, no-place}
 use Rattle.rank_core.proofs.flows.FlowTable.run_for.Goals as goal
 

@@ -1,8 +1,5 @@
-use Rattle.std.proofs.Common.{◌≡◌, ◌+◌, arith}
-use Rattle.packet_core.specs.Classifier.{policy_of}
+use Rattle.sched_capture.proofs.Prelude.{◌≡◌, arith, ◌+◌, policy_of, IsSendable, packet_of}
 use Rattle.pcap_core.specs.Captures.{packet_of as packet_told}
-use Rattle.sched_defs.specs.Numbered.{IsSendable}
-use Rattle.sched_capture.specs.Packets.{packet_of}
 use Rattle.sched_capture.proofs.RecordPackets.{next_of_record}
 use Rattle.sched_capture.proofs.arrivals.Arrivals.next_packet.Goals as goal
 

@@ -1,11 +1,6 @@
-use Rattle.std.proofs.Common.{true≢false, sym, ◌∙◌, subst}
-use Rattle.std.proofs.lemmas.Result.{err_from_is_err_and}
-use Rattle.pcap_defs.specs.Fault.{pcap_ng}
-use Rattle.pcap_defs.specs.Header.{IsHeaderFault}
-use Rattle.pcap_core.specs.Captures.{Opens}
+use Rattle.sched_capture.proofs.Prelude.{sym, subst, ◌∙◌, true≢false, err_from_is_err_and, Opens, pcap_ng, IsHeaderFault, Refuses}
 use Rattle.pcap_core.specs.Held.{held}
 use Rattle.sched_capture.specs.Arrivals as one
-use Rattle.sched_capture.specs.Arrivals.{Refuses}
 use Rattle.pcapng_core.specs.Left as blocks_left
 use Rattle.sched_capture.proofs.Fronts.{as-newer, as-classic}
 use Rattle.sched_capture.proofs.capture_packets.CapturePackets.start.Goals as goal

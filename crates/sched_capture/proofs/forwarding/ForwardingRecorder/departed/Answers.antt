@@ -1,6 +1,4 @@
-use Rattle.std.proofs.Common.{ap, sym, ◌∙◌, arith}
-use Rattle.std.proofs.lemmas.Result.{on_ok_weaker}
-use Rattle.std.specs.Prelude.{option_map}
+use Rattle.sched_capture.proofs.Prelude.{arith, sym, ap, ◌∙◌, on_ok_weaker, option_map}
 use Rattle.sched_capture.proofs.SentRecords.{told_one}
 use Rattle.sched_capture.proofs.forwarding.ForwardingRecorder.departed.Goals as goal
 

@@ -1,8 +1,5 @@
-use Rattle.std.proofs.Common.{◌≡◌, None, Some, refl, arith}
-use Rattle.sched_capture.specs.CapturePackets.{resolved_of, given_by, captured_by, contents_of}
-use Rattle.pcap_defs.specs.Contents.{FileContents}
-use Rattle.pcap_core.specs.Captures.{Opens}
-use Rattle.sched_capture.specs.SingleLinkType.{EachFileOf, one_link_in}
+use Rattle.sched_capture.proofs.Prelude.{◌≡◌, Some, None, arith, refl, Opens, FileContents, captured_by, one_link_in, EachFileOf}
+use Rattle.sched_capture.specs.CapturePackets.{resolved_of, given_by, contents_of}
 use Rattle.sched_capture.proofs.PacketsLeft.{begins, captured_at_start}
 use Rattle.sched_capture.proofs.SingleLinkTypePackets.{behind_ahead, is_first, opens_first, opens_none, link_of_first, link_of_none, refuses_first}
 use Rattle.sched_capture.proofs.single_link_type.SingleLinkType.start.Given.{Over}

@@ -1,9 +1,6 @@
-use Rattle.std.proofs.Common.{◌≡◌, None, Some, sym}
-use Rattle.std.specs.Prelude.{option_map}
+use Rattle.sched_capture.proofs.Prelude.{◌≡◌, Some, None, sym, option_map, other_link, captured_by, rest_of_link}
 use Rattle.outside_core.specs.declared.read_error.ReadError.TheVariants.{Fault}
-use Rattle.forward_defs.specs.SingleLinkType.{other_link}
-use Rattle.sched_capture.specs.CapturePackets.{resolved_of, given_by, captured_by, contents_of}
-use Rattle.sched_capture.specs.SingleLinkType.{rest_of_link}
+use Rattle.sched_capture.specs.CapturePackets.{resolved_of, given_by, contents_of}
 use Rattle.sched_capture.proofs.PacketsLeft.{Gives, gives, ends, is_over, none_known, is_read_error}
 use Rattle.sched_capture.proofs.SingleLinkTypePackets.{behind_ahead, first_next, next_alike, stops_at_other, at_end, stops_at_end, over_at_end}
 use Rattle.sched_capture.proofs.single_link_type.SingleLinkTypePackets.next.Given.{Over}

@@ -1,6 +1,4 @@
-use Rattle.std.proofs.Common.{◌≡◌, ◌%◌, ◌≤◌, ◌<◌, ℕ, false, length, get_or}
-use Rattle.sched_core.specs.declared.slot.Slot.{Slot}
-use Rattle.sched_core.specs.Slots.{stands_at}
+use Rattle.sched_core.proofs.Prelude.{◌≡◌, ℕ, length, ◌<◌, ◌≤◌, get_or, false, ◌%◌, stands_at, Slot}
 use Rattle.sched_core.proofs.chunk.Chunk.find.Given as goal
 
 abbrev pub invariant-loop-i : goal.invariant-loop-i

@@ -1,6 +1,4 @@
-use Rattle.std.proofs.Common.{◌≡◌, ◌-◌, ◌<◌, Some, is_some, List, [], ◌∷◌, length, get_or, slice_get, true≢false, subst, ap, arith}
-use Rattle.std.proofs.lemmas.Bool.{ltb-true}
-use Rattle.sched_core.specs.declared.slot.Slot.{Slot}
+use Rattle.sched_core.proofs.Prelude.{arith, ◌≡◌, ap, List, length, subst, Some, ◌<◌, [], ◌∷◌, get_or, is_some, true≢false, ◌-◌, ltb-true, slice_get, Slot}
 use Rattle.sched_core.proofs.SlotLaws.{behind-last}
 use Rattle.sched_core.proofs.chunk.Chunk.is_behind.Goals as goal
 

@@ -1,5 +1,4 @@
-use Rattle.std.proofs.Common.{Some, sym, ap, ◌∙◌, arith}
-use Rattle.sched_core.specs.Slots.{packet_in}
+use Rattle.sched_core.proofs.Prelude.{arith, ap, ◌∙◌, sym, Some, packet_in}
 use Rattle.sched_core.proofs.SlotLaws.{among-at, ordered-in}
 use Rattle.sched_core.proofs.chunk.Chunk.packet.Goals as goal
 

@@ -1,6 +1,4 @@
-use Rattle.std.proofs.Common.{◌≡◌, ◌≤◌, List, [], ◌∷◌, ◌++◌, ap, ◌∙◌, arith}
-use Rattle.sched_core.specs.declared.slot.Slot.{Slot}
-use Rattle.sched_core.specs.Slots.{packet_among, filled_among, are_ordered, place_behind}
+use Rattle.sched_core.proofs.Prelude.{arith, ◌≡◌, ap, ◌∙◌, List, [], ◌∷◌, ◌≤◌, ◌++◌, packet_among, are_ordered, filled_among, place_behind, Slot}
 use Rattle.sched_core.proofs.SlotLaws.{among-push, ordered-push, filled-push, ordered-in, ordered-out, filled-le}
 use Rattle.sched_core.proofs.chunk.Chunk.push.Goals as goal
 

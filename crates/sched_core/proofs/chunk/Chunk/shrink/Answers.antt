@@ -1,6 +1,4 @@
-use Rattle.std.proofs.Common.{◌≡◌, List, sym, ap, ◌∙◌, arith}
-use Rattle.sched_core.specs.declared.slot.Slot.{Slot}
-use Rattle.sched_core.specs.Slots.{packet_among, filled_among, are_ordered}
+use Rattle.sched_core.proofs.Prelude.{arith, ◌≡◌, ap, ◌∙◌, sym, List, packet_among, are_ordered, filled_among, Slot}
 use Rattle.sched_core.proofs.SlotLaws.{filled_of, kept-push, kept-skip, take-whole, ordered-in, ordered-out, ordered-kept, count-kept, among-kept}
 use Rattle.sched_core.proofs.chunk.Chunk.shrink.Goals as goal
 use Rattle.sched_core.proofs.chunk.Chunk.shrink.Goals.{then-slot+in_ok-push, else-slot}

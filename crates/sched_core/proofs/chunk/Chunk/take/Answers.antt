@@ -1,6 +1,4 @@
-use Rattle.std.proofs.Common.{◌<◌, ◌%◌, false, None, Some, length, get_or, refl, sym, ap, ◌∙◌, arith}
-use Rattle.sched_core.specs.declared.slot.Slot.{Slot}
-use Rattle.sched_core.specs.Slots.{packet_in, packet_among}
+use Rattle.sched_core.proofs.Prelude.{arith, ap, ◌∙◌, sym, length, Some, ◌<◌, refl, None, get_or, false, ◌%◌, packet_in, packet_among, Slot}
 use Rattle.sched_core.proofs.SlotLaws.{split, if_same, if_other, none-place, filled-there, some-filled, filled-emptied, ordered-in, ordered-out, ordered-set, among-at, among-emptied}
 use Rattle.sched_core.proofs.chunk.Chunk.take.Goals as goal
 

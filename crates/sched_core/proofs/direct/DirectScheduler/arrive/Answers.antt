@@ -1,11 +1,5 @@
-use Rattle.std.proofs.Common.{◌+◌, ℕ, List, length, sym, ap, ◌∙◌, subst}
-use Rattle.tree_defs.specs.Tree.{Address, LeadsToLeaf}
-use Rattle.tree_defs.specs.SourceTree.{SourceTree}
-use Rattle.policy_defs.specs.Policy.{Policy}
-use Rattle.sched_defs.specs.SourceState.{class_of}
-use Rattle.sched_defs.proofs.Soundness.{leads_in}
+use Rattle.sched_core.proofs.Prelude.{ap, ◌∙◌, sym, ℕ, List, length, subst, ◌+◌, Policy, leads_in, class_of, SourceTree, Address, LeadsToLeaf, policy_in}
 use Rattle.sched_defs.proofs.Leaving.{arrives_at_a_leaf}
-use Rattle.sched_core.specs.PolicyState.{policy_in}
 use Rattle.sched_core.proofs.direct.DirectScheduler.arrive.Goals as goal
 
 pub reserve-requires : goal.reserve-requires

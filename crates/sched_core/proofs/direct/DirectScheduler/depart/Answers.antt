@@ -1,12 +1,6 @@
-use Rattle.std.proofs.Common.{◌≡◌, None, Some, sym, ap, ◌∙◌, refl, arith}
-use Rattle.tree_defs.specs.Tree.{depth}
-use Rattle.tree_defs.specs.Topology.{Topology}
-use Rattle.tree_defs.specs.SourceTree.{SourceTree, pop, size}
+use Rattle.sched_core.proofs.Prelude.{arith, ◌≡◌, ap, ◌∙◌, sym, Some, refl, None, Policy, leaver, SourceTree, pop, size, Topology, depth, policy_in}
 use Rattle.tree_defs.proofs.Shapes.{topology_of-same, depth-topology}
-use Rattle.policy_defs.specs.Policy.{Policy}
-use Rattle.sched_defs.specs.SourceState.{leaver}
 use Rattle.sched_defs.proofs.Leaving.{pop_size, leaver-none}
-use Rattle.sched_core.specs.PolicyState.{policy_in}
 use Rattle.sched_core.proofs.direct.DirectScheduler.depart.Goals as goal
 
 pub pop-requires : goal.pop-requires

@@ -1,11 +1,8 @@
-use Rattle.std.proofs.Common.{◌||◌, ◌++◌, ℕ, nat_eq, is_some, sym, ap, ap₂, ◌∙◌, arith, length-append}
+use Rattle.sched_core.proofs.Prelude.{arith, ap, ◌∙◌, sym, ℕ, ◌++◌, is_some, nat_eq, ap₂, ◌||◌, length-append, list_any-append, get, keys, packet_within, numbers_below}
 use Rattle.std.specs.Cmp.{nat_eq_equiv}
-use Rattle.std.proofs.lemmas.List.Folds.{list_any-append}
 use Rattle.std.proofs.lemmas.Map.Entries.{length-keys_of}
 use Rattle.std.proofs.lemmas.Map.Made.{is_some-lookup}
 use Rattle.std.proofs.lemmas.Map.Views.{Contains-from_any, list_any-from_Contains, exact_unsigned_eq}
-use Rattle.indexmap.specs.IndexMap.{get, keys}
-use Rattle.sched_core.specs.Chunks.{packet_within, numbers_below}
 use Rattle.sched_core.specs.Windows.{packet_at, numbers_of}
 use Rattle.sched_core.specs.Held.{held_at, numbers_in}
 use Rattle.sched_core.proofs.NumberLaws.{any-found, distinct-below}

@@ -1,8 +1,6 @@
-use Rattle.std.proofs.Common.{nat_eq, Option, Some, is_some, ap, sym, ◌∙◌, true≢false, arith}
-use Rattle.indexmap.specs.IndexMap.{get}
-use Rattle.packet_defs.specs.declared.packet.Packet.{Packet}
+use Rattle.sched_core.proofs.Prelude.{arith, ap, ◌∙◌, sym, Some, Option, is_some, nat_eq, true≢false, get, Packet, or_stray}
 use Rattle.sched_core.specs.Windows.{packet_at}
-use Rattle.sched_core.specs.Held.{held_at, or_stray}
+use Rattle.sched_core.specs.Held.{held_at}
 use Rattle.sched_core.proofs.SlotLaws.{split, if_same, if_other}
 use Rattle.sched_core.proofs.held.Held.move_outliers.Goals as goal
 

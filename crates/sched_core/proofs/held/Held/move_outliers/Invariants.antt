@@ -1,6 +1,4 @@
-use Rattle.std.proofs.Common.{◌≡◌, ℕ}
-use Rattle.sched_core.specs.Windows.{end_of}
-use Rattle.sched_core.specs.Held.{held_at}
+use Rattle.sched_core.proofs.Prelude.{◌≡◌, ℕ, held_at, end_of}
 use Rattle.sched_core.proofs.held.Held.move_outliers.Given as goal
 
 abbrev pub invariant-loop-packet : goal.invariant-loop-packet

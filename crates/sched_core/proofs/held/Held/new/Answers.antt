@@ -1,6 +1,5 @@
-use Rattle.std.proofs.Common.{◌≡◌, nat_eq, None, ap₂, rules}
-use Rattle.indexmap.specs.IndexMap.{get}
-use Rattle.sched_core.specs.Held.{held_at, or_stray}
+use Rattle.sched_core.proofs.Prelude.{◌≡◌, None, nat_eq, ap₂, rules, get, or_stray}
+use Rattle.sched_core.specs.Held.{held_at}
 use Rattle.sched_core.proofs.held.Held.new.Goals as goal
 
 pub returns : goal.returns

@@ -1,9 +1,6 @@
-use Rattle.std.proofs.Common.{◌==◌, ◌&&◌, ◌≤◌, ◌<◌, ◌^◌, nat_eq, Bool, if◌then◌else◌, Option, Some, is_some, refl, sym, ap, ap₂, ◌∙◌, arith}
-use Rattle.std.proofs.lemmas.Result.{err_from_is_err_and, on_ok_weaker, on_err_weaker}
-use Rattle.indexmap.specs.IndexMap.{get}
-use Rattle.packet_defs.specs.declared.packet.Packet.{Packet}
+use Rattle.sched_core.proofs.Prelude.{arith, ap, ◌∙◌, sym, Some, ◌<◌, refl, Option, ◌≤◌, is_some, if◌then◌else◌, nat_eq, ◌==◌, Bool, ap₂, ◌&&◌, ◌^◌, err_from_is_err_and, on_ok_weaker, on_err_weaker, get, Packet, or_stray}
 use Rattle.sched_core.specs.Windows.{packet_at}
-use Rattle.sched_core.specs.Held.{held_at, or_stray}
+use Rattle.sched_core.specs.Held.{held_at}
 use Rattle.sched_core.proofs.SlotLaws.{split}
 use Rattle.sched_core.proofs.HeldNumbers.{neither, came-other, put-slot}
 use Rattle.sched_core.proofs.held.Held.put.Goals as goal

@@ -1,10 +1,6 @@
-use Rattle.std.proofs.Common.{ℕ, nat_eq, List, ap}
+use Rattle.sched_core.proofs.Prelude.{ap, ℕ, List, nat_eq, err_from_is_err_and, get, Packet, or_stray, packet_at}
 use Rattle.std.specs.Map.{lookup}
-use Rattle.std.proofs.lemmas.Result.{err_from_is_err_and}
-use Rattle.indexmap.specs.IndexMap.{get}
-use Rattle.packet_defs.specs.declared.packet.Packet.{Packet}
-use Rattle.sched_core.specs.Windows.{packet_at}
-use Rattle.sched_core.specs.Held.{held_at, or_stray}
+use Rattle.sched_core.specs.Held.{held_at}
 use Rattle.sched_core.proofs.HeldNumbers.{was-given, put-beside}
 use Rattle.sched_core.proofs.held.Held.put_stray.Goals as goal
 

@@ -1,7 +1,5 @@
-use Rattle.std.proofs.Common.{nat_eq, Option, is_some, ap, sym, ◌∙◌, arith}
-use Rattle.indexmap.specs.IndexMap.{get}
-use Rattle.packet_defs.specs.declared.packet.Packet.{Packet}
-use Rattle.sched_core.specs.Held.{held_at, or_stray}
+use Rattle.sched_core.proofs.Prelude.{arith, ap, ◌∙◌, sym, Option, is_some, nat_eq, get, Packet, or_stray}
+use Rattle.sched_core.specs.Held.{held_at}
 use Rattle.sched_core.proofs.held.Held.reach.Goals as goal
 
 pub invariant_of-self : goal.invariant_of-self

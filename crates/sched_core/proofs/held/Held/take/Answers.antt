@@ -1,8 +1,5 @@
-use Rattle.std.proofs.Common.{◌≡◌, ℕ, nat_eq, Option, is_some, ap, ◌∙◌}
-use Rattle.indexmap.specs.IndexMap.{get}
-use Rattle.packet_defs.specs.declared.packet.Packet.{Packet}
-use Rattle.sched_core.specs.Windows.{packet_at}
-use Rattle.sched_core.specs.Held.{held_at, or_stray}
+use Rattle.sched_core.proofs.Prelude.{◌≡◌, ap, ◌∙◌, ℕ, Option, is_some, nat_eq, get, Packet, or_stray, packet_at}
+use Rattle.sched_core.specs.Held.{held_at}
 use Rattle.sched_core.proofs.HeldNumbers.{take-slot, take-both}
 use Rattle.sched_core.proofs.held.Held.take.Goals as goal
 

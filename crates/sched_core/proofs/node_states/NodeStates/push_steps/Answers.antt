@@ -1,13 +1,5 @@
-use Rattle.std.proofs.Common.{◌≡◌, ◌∙◌, List, ap, sym, subst, arith}
-use Rattle.rank_core.specs.declared.node.NodeState.{NodeState}
-use Rattle.rank_core.proofs.Lists.{refilled}
-use Rattle.packet_defs.specs.declared.packet.Packet.{Packet}
-use Rattle.policy_defs.specs.Policy.{Policy, Class}
-use Rattle.policy_core.specs.Parts.{class_in}
-use Rattle.sched_defs.specs.Visits.{Visit, ranks_pushed, after_pushes}
-use Rattle.sched_defs.specs.SourceState.{class_of, way_in}
-use Rattle.sched_core.specs.Kept.{HaveValues}
-use Rattle.sched_core.specs.Agreement.{policy_of}
+use Rattle.sched_core.proofs.Prelude.{arith, ◌≡◌, ap, ◌∙◌, sym, List, subst, Packet, class_in, Policy, refilled, NodeState, class_of, way_in, Visit, after_pushes, ranks_pushed, policy_of, HaveValues}
+use Rattle.policy_defs.specs.Policy.{Class}
 use Rattle.sched_core.proofs.ClassLeaves.{class-within, class-is}
 use Rattle.sched_core.proofs.RootWays.{ready, whole-way, room-at_leaf}
 use Rattle.sched_core.proofs.node_states.NodeStates.push_steps.Goals as goal

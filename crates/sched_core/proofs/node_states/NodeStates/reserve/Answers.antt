@@ -1,8 +1,5 @@
-use Rattle.std.proofs.Common.{◌<◌, arith, get_or}
-use Rattle.std.proofs.lemmas.Result.{on_ok_weaker}
-use Rattle.tree_defs.specs.Tree.{nodes}
+use Rattle.sched_core.proofs.Prelude.{arith, ◌<◌, get_or, on_ok_weaker, nodes, policy_of}
 use Rattle.policy_core.proofs.PolicyParts.{all-at}
-use Rattle.sched_core.specs.Agreement.{policy_of}
 use Rattle.sched_core.proofs.ClassLeaves.{class-within, leaf-leads, leaf-number}
 use Rattle.sched_core.proofs.RoomLaws.{flow-belongs, stations-reserved, values-reserved, room-reserved, room-made}
 use Rattle.sched_core.proofs.node_states.NodeStates.reserve.Goals as goal

@@ -1,14 +1,4 @@
-use Rattle.std.proofs.Common.{◌≡◌, ℕ, max, Option, Some, if◌then◌else◌, ◌==◌, sym, ap, ◌∙◌, subst, arith}
-use Rattle.std.proofs.lemmas.Result.{err_from_is_err_and}
-use Rattle.tree_defs.proofs.WellFormedLaws.{size-push}
-use Rattle.packet_defs.specs.declared.packet.Packet.{Packet}
-use Rattle.policy_defs.specs.Policy.{Policy}
-use Rattle.sched_defs.specs.Visits.{after_pushes, ranks_pushed}
-use Rattle.sched_defs.specs.SourceState.{class_of, way_in, arrival_ranks}
-use Rattle.sched_defs.proofs.Soundness.{leads_in}
-use Rattle.sched_core.specs.Agreement.{policy_of, AreStates}
-use Rattle.sched_core.specs.Arrivals.{leaf_number}
-use Rattle.sched_core.specs.PolicyState.{policy_in, AreFilled}
+use Rattle.sched_core.proofs.Prelude.{arith, ◌≡◌, ap, ◌∙◌, sym, ℕ, subst, Some, Option, if◌then◌else◌, ◌==◌, max, err_from_is_err_and, Packet, Policy, leads_in, class_of, arrival_ranks, way_in, after_pushes, ranks_pushed, size-push, policy_of, AreStates, leaf_number, policy_in, AreFilled}
 use Rattle.sched_core.proofs.Filling.{count-within, count-few, filled-pushed}
 use Rattle.sched_core.proofs.policy_state.PolicyState.admit.Goals as goal
 

@@ -1,9 +1,5 @@
-use Rattle.std.proofs.Common.{◌↔◌, Option, IsSome, subst, ◌∙◌}
-use Rattle.std.specs.List.{Contains}
-use Rattle.packet_defs.specs.declared.packet.Packet.{Packet}
+use Rattle.sched_core.proofs.Prelude.{◌∙◌, subst, Option, ◌↔◌, IsSome, Contains, Packet, numbers_in, policy_in}
 use Rattle.sched_defs.proofs.Leaving.{held_count}
-use Rattle.sched_core.specs.Held.{numbers_in}
-use Rattle.sched_core.specs.PolicyState.{policy_in}
 use Rattle.sched_core.proofs.policy_state.PolicyState.held.Goals as goal
 
 pub returns : goal.returns

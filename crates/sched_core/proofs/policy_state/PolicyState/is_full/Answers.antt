@@ -1,9 +1,4 @@
-use Rattle.std.proofs.Common.{◌≡◌, ◌<◌, ℕ, Option, None, Some, sym, ap, ◌∙◌, subst, arith}
-use Rattle.tree_defs.specs.Tree.{nodes}
-use Rattle.policy_defs.specs.Policy.{Policy, limit_at}
-use Rattle.policy_core.specs.Numbering.{HasAt}
-use Rattle.sched_defs.specs.SourceState.{class_of, filled, is_reached}
-use Rattle.sched_core.specs.PolicyState.{policy_in}
+use Rattle.sched_core.proofs.Prelude.{arith, ◌≡◌, ap, ◌∙◌, sym, ℕ, subst, Some, ◌<◌, Option, None, HasAt, Policy, limit_at, class_of, filled, is_reached, nodes, policy_in}
 use Rattle.sched_core.proofs.Filling.{leaf-within, leaf-limit, count-within, count-is}
 use Rattle.sched_core.proofs.policy_state.PolicyState.is_full.Goals as goal
 

@@ -1,10 +1,5 @@
-use Rattle.std.proofs.Common.{◌≡◌, sym, ap, ◌∙◌, List, slice_get, unwrap_or, [], length, arith}
-use Rattle.std.proofs.lemmas.List.{length-map}
-use Rattle.policy_core.specs.Parts.{class_in}
-use Rattle.policy_defs.specs.Policy.{Policy, Class as Aimed, no_marks}
-use Rattle.policy_defs.specs.Numbers.{number_at}
-use Rattle.sched_defs.specs.SourceState.{class_of}
-use Rattle.sched_core.specs.PolicyState.{policy_in}
+use Rattle.sched_core.proofs.Prelude.{arith, ◌≡◌, ap, ◌∙◌, sym, List, length, [], length-map, slice_get, unwrap_or, class_in, number_at, Policy, no_marks, class_of, policy_in}
+use Rattle.policy_defs.specs.Policy.{Class as Aimed}
 use Rattle.sched_core.proofs.LeafNumbers.{leaf-number}
 use Rattle.sched_core.proofs.policy_state.PolicyState.leaf.Goals as goal
 

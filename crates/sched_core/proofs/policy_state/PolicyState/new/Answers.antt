@@ -1,7 +1,5 @@
-use Rattle.std.proofs.Common.{refl, arith}
+use Rattle.sched_core.proofs.Prelude.{arith, refl, size-empty, topology_of}
 use Rattle.sched_core.proofs.Filling.{filled-start}
-use Rattle.tree_defs.specs.Topology.{topology_of}
-use Rattle.tree_defs.proofs.WellFormedLaws.{size-empty}
 use Rattle.sched_core.proofs.policy_state.PolicyState.new.Goals as goal
 
 pub returns-clause-start : goal.returns-clause-start

@@ -1,14 +1,4 @@
-use Rattle.std.proofs.Common.{◌≡◌, ℕ, None, Option, Some, is_some, if◌then◌else◌, ◌==◌, true≢false, sym, ap, ◌∙◌, subst, List, refl, arith}
-use Rattle.tree_defs.proofs.WellFormedLaws.{size-pop}
-use Rattle.packet_defs.specs.declared.packet.Packet.{Packet}
-use Rattle.policy_defs.specs.Policy.{Policy}
-use Rattle.policy_defs.specs.Numbers.{number_at}
-use Rattle.sched_defs.specs.Visits.{after_pops}
-use Rattle.sched_defs.specs.SourceState.{way_out}
-use Rattle.sched_defs.specs.Laws.{LeavesItsLeaf}
-use Rattle.sched_core.specs.Agreement.{policy_of, AreStates}
-use Rattle.sched_core.specs.Arrivals.{leaf_number}
-use Rattle.sched_core.specs.PolicyState.{policy_in}
+use Rattle.sched_core.proofs.Prelude.{arith, ◌≡◌, ap, ◌∙◌, sym, ℕ, List, subst, Some, refl, Option, None, is_some, if◌then◌else◌, ◌==◌, true≢false, Packet, number_at, Policy, LeavesItsLeaf, way_out, after_pops, size-pop, policy_of, AreStates, leaf_number, policy_in}
 use Rattle.sched_core.proofs.Filling.{count-within, count-some, filled-left}
 use Rattle.sched_core.proofs.PoppedPackets.{taken, is_held, leaves, leaver-popped, departed-popped}
 use Rattle.sched_core.proofs.policy_state.PolicyState.release.Goals as goal

@@ -1,8 +1,4 @@
-use Rattle.std.proofs.Common.{◌≡◌, ℕ, List, length, sym, ap, ◌∙◌, arith}
-use Rattle.std.specs.Prelude.{is_ok}
-use Rattle.std.specs.VecDeque.{deque_len}
-use Rattle.sched_core.specs.declared.chunk.Chunk.{Chunk}
-use Rattle.sched_core.specs.Chunks.{packet_within}
+use Rattle.sched_core.proofs.Prelude.{arith, ◌≡◌, ap, ◌∙◌, sym, ℕ, List, length, is_ok, deque_len, packet_within, Chunk}
 use Rattle.sched_core.specs.Windows.{packet_at}
 use Rattle.sched_core.proofs.ChunkLaws.{within-push, within-maybe, one-more}
 use Rattle.sched_core.proofs.NumberLaws.{below-same}

@@ -1,6 +1,4 @@
-use Rattle.std.proofs.Common.{◌≡◌, ◌<◌, ◌+◌, ◌==◌, if◌then◌else◌, ℕ, Option, None, Some, is_some, length, set, sym, ap, ◌∙◌, arith}
-use Rattle.packet_defs.specs.declared.packet.Packet.{Packet}
-use Rattle.sched_core.specs.Chunks.{packet_of, packet_within, numbers_below}
+use Rattle.sched_core.proofs.Prelude.{arith, ◌≡◌, ap, ◌∙◌, sym, ℕ, length, Some, ◌<◌, Option, None, ◌+◌, is_some, if◌then◌else◌, ◌==◌, set, Packet, packet_within, packet_of, numbers_below}
 use Rattle.sched_core.specs.Windows.{packet_at}
 use Rattle.sched_core.proofs.SlotLaws.{if_other}
 use Rattle.sched_core.proofs.ChunkLaws.{taken, told}

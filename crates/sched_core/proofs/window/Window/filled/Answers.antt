@@ -1,5 +1,4 @@
-use Rattle.std.proofs.Common.{arith}
-use Rattle.sched_core.specs.Chunks.{packet_within}
+use Rattle.sched_core.proofs.Prelude.{arith, packet_within}
 use Rattle.sched_core.specs.Windows.{numbers_of}
 use Rattle.sched_core.proofs.NumberLaws.{below-length}
 use Rattle.sched_core.proofs.window.Window.filled.Goals as goal

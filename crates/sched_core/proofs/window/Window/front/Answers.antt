@@ -1,6 +1,4 @@
-use Rattle.std.proofs.Common.{◌≡◌, Option, Some, sym, subst}
-use Rattle.std.specs.Prelude.{IfSome}
-use Rattle.packet_defs.specs.declared.packet.Packet.{Packet}
+use Rattle.sched_core.proofs.Prelude.{◌≡◌, sym, subst, Some, Option, IfSome, Packet}
 use Rattle.sched_core.specs.Windows.{packet_at}
 use Rattle.sched_core.proofs.ChunkLaws.{found-self}
 use Rattle.sched_core.proofs.window.Window.front.Goals as goal

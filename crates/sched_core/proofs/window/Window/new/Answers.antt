@@ -1,6 +1,4 @@
-use Rattle.std.proofs.Common.{List, ap}
-use Rattle.sched_core.specs.declared.chunk.Chunk.{Chunk}
-use Rattle.sched_core.specs.Chunks.{packet_within}
+use Rattle.sched_core.proofs.Prelude.{ap, List, packet_within, Chunk}
 use Rattle.sched_core.specs.Windows.{packet_at}
 use Rattle.sched_core.proofs.window.Window.new.Goals as goal
 

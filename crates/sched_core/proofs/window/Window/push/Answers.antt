@@ -1,8 +1,4 @@
-use Rattle.std.proofs.Common.{◌≡◌, ◌<◌, ◌&&◌, ◌==◌, ◌%◌, if◌then◌else◌, ℕ, Bool, Some, length, set, sym, ap, ◌∙◌, arith}
-use Rattle.std.proofs.lemmas.Result.{err_from_is_err_and}
-use Rattle.sched_core.specs.declared.chunk.Chunk.{Chunk}
-use Rattle.sched_core.specs.Slots.{packet_in}
-use Rattle.sched_core.specs.Chunks.{packet_of, packet_within}
+use Rattle.sched_core.proofs.Prelude.{arith, ◌≡◌, ap, ◌∙◌, sym, ℕ, length, Some, ◌<◌, if◌then◌else◌, ◌==◌, Bool, set, ◌%◌, ◌&&◌, err_from_is_err_and, packet_within, packet_of, packet_in, Chunk}
 use Rattle.sched_core.specs.Windows.{packet_at}
 use Rattle.sched_core.proofs.SlotLaws.{if_other}
 use Rattle.sched_core.proofs.ChunkLaws.{stood, not-stood, within-same}

@@ -1,6 +1,4 @@
-use Rattle.std.proofs.Common.{◌≡◌, ℕ, None, List, length, sym, ap, ◌∙◌, arith}
-use Rattle.sched_core.specs.declared.chunk.Chunk.{Chunk}
-use Rattle.sched_core.specs.Chunks.{packet_within}
+use Rattle.sched_core.proofs.Prelude.{arith, ◌≡◌, ap, ◌∙◌, sym, ℕ, List, length, None, packet_within, Chunk}
 use Rattle.sched_core.specs.Windows.{packet_at}
 use Rattle.sched_core.proofs.NumberLaws.{below-same, none-at-all}
 use Rattle.sched_core.proofs.window.Window.restart.Goals as goal

@@ -1,6 +1,4 @@
-use Rattle.std.proofs.Common.{◌≡◌, ◌-◌, ◌<◌, ℕ, length, set, sym, ap, ◌∙◌, arith}
-use Rattle.sched_core.specs.declared.chunk.Chunk.{Chunk}
-use Rattle.sched_core.specs.Chunks.{packet_of, packet_within}
+use Rattle.sched_core.proofs.Prelude.{arith, ◌≡◌, ap, ◌∙◌, sym, ℕ, length, ◌<◌, set, ◌-◌, packet_within, packet_of, Chunk}
 use Rattle.sched_core.specs.Windows.{packet_at}
 use Rattle.sched_core.proofs.ChunkLaws.{within-same}
 use Rattle.sched_core.proofs.NumberLaws.{below-same}

@@ -1,5 +1,4 @@
-use Rattle.std.proofs.Common.{◌+◌, length, sym, ap, ◌∙◌, refl, arith}
-use Rattle.sched_core.specs.Chunks.{packet_within}
+use Rattle.sched_core.proofs.Prelude.{arith, ap, ◌∙◌, sym, length, refl, ◌+◌, packet_within}
 use Rattle.sched_core.specs.Windows.{packet_at}
 use Rattle.sched_core.proofs.NumberLaws.{below-farther}
 use Rattle.sched_core.proofs.window.Window.stretch.Goals as goal

@@ -1,6 +1,4 @@
-use Rattle.std.proofs.Common.{◌≡◌, ℕ}
-use Rattle.std.specs.VecDeque.{deque_len}
-use Rattle.sched_core.specs.Windows.{packet_at, end_of}
+use Rattle.sched_core.proofs.Prelude.{◌≡◌, ℕ, deque_len, packet_at, end_of}
 use Rattle.sched_core.proofs.window.Window.trim.Given as goal
 
 abbrev pub invariant-loop-self : goal.invariant-loop-self

@@ -1,14 +1,5 @@
-use Rattle.std.proofs.Common.{ℕ, length, sym, ap, ◌∙◌, subst, arith}
-use Rattle.tree_defs.specs.Tree.{Tree, Address}
-use Rattle.tree_defs.specs.Topology.{topology_of}
-use Rattle.tree_defs.specs.SourceTree.{empty_tree}
-use Rattle.embed_defs.specs.Images.{image_map}
-use Rattle.embed_defs.specs.GoodMaps.{IsGoodMap}
-use Rattle.embed_defs.specs.Lift.{IsLift}
+use Rattle.sched_embedded.proofs.Prelude.{sym, ℕ, ◌∙◌, ap, subst, arith, length, IsGoodMap, image_map, IsLift, Policy, policy_in, empty_tree, topology_of, Address, Tree, HasLanes}
 use Rattle.embed_defs.proofs.EmbeddedMaps.{embeddings_are_good_maps as good_map}
-use Rattle.policy_defs.specs.Policy.{Policy}
-use Rattle.sched_core.specs.PolicyState.{policy_in}
-use Rattle.sched_embedded.specs.Laid.{HasLanes}
 use Rattle.sched_embedded.proofs.MapShapes.{topology-same, embedding-laid, empty-lifted}
 use Rattle.sched_embedded.proofs.embedded.Embedded.new.Goals as goal
 

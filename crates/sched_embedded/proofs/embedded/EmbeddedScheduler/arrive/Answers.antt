@@ -1,19 +1,5 @@
-use Rattle.std.proofs.Common.{◌≡◌, ◌+◌, false, ℕ, Option, Some, List, length, sym, ap, ◌∙◌, subst, arith}
+use Rattle.sched_embedded.proofs.Prelude.{sym, ℕ, ◌∙◌, ap, ◌≡◌, subst, List, arith, length, Some, ◌+◌, Option, false, slice_get, IsLaneTo, AreRanks, image_map, IsLift, push_spills, Policy, policy_in, raised, arrives_at_a_leaf, class_of, arrival_ranks, is_full, SourceTree, push, Address, Tree, LeadsToLeaf, Laid, HoldsLift}
 use Rattle.std.proofs.lemmas.Option.{slice_get_read}
-use Rattle.std.specs.Prelude.{slice_get}
-use Rattle.tree_defs.specs.Tree.{Tree, Address, LeadsToLeaf}
-use Rattle.tree_defs.specs.SourceTree.{SourceTree, push}
-use Rattle.embed_defs.specs.Family.{AreRanks}
-use Rattle.embed_defs.specs.Images.{image_map}
-use Rattle.embed_defs.specs.Lift.{IsLift}
-use Rattle.embed_defs.specs.Spilling.{push_spills}
-use Rattle.embed_core.specs.Lanes.{IsLaneTo}
-use Rattle.policy_defs.specs.Policy.{Policy}
-use Rattle.sched_defs.specs.SourceState.{class_of, arrival_ranks, is_full}
-use Rattle.sched_defs.proofs.Leaving.{arrives_at_a_leaf}
-use Rattle.sched_core.specs.PolicyState.{policy_in}
-use Rattle.sched_core.specs.Spills.{raised}
-use Rattle.sched_embedded.specs.Laid.{Laid, HoldsLift}
 use Rattle.sched_embedded.proofs.MapShapes.{same_leaves, sound-shape, sound-holds}
 use Rattle.sched_embedded.proofs.LiftMoves.{lift-same}
 use Rattle.sched_embedded.proofs.embedded.EmbeddedScheduler.arrive.Goals as goal

@@ -1,13 +1,4 @@
-use Rattle.std.proofs.Common.{◌≡◌, None, refl, sym, ap, ◌∙◌, subst, arith}
-use Rattle.tree_defs.specs.SourceTree.{SourceTree, pop}
-use Rattle.embed_defs.specs.Family.{Family}
-use Rattle.embed_defs.specs.Images.{image_map}
-use Rattle.embed_defs.specs.Lift.{IsLift}
-use Rattle.policy_defs.specs.Policy.{Policy}
-use Rattle.sched_defs.specs.SourceState.{departed}
-use Rattle.sched_defs.proofs.Leaving.{pop_size}
-use Rattle.sched_core.specs.PolicyState.{policy_in}
-use Rattle.sched_embedded.specs.Laid.{Laid, PopsTo}
+use Rattle.sched_embedded.proofs.Prelude.{sym, ◌∙◌, ap, ◌≡◌, subst, arith, refl, None, Family, image_map, IsLift, Policy, policy_in, pop_size, departed, SourceTree, pop, Laid, PopsTo}
 use Rattle.sched_embedded.proofs.MapShapes.{same_depth, sound-holds}
 use Rattle.sched_embedded.proofs.ClassLanes.{lanes-lead}
 use Rattle.sched_embedded.proofs.LiftMoves.{lift-same}

@@ -1,6 +1,4 @@
-use Rattle.std.proofs.Common.{sym, ◌∙◌, subst}
-use Rattle.embed_defs.specs.Family.{IsLeafAddress}
-use Rattle.sched_embedded.specs.Laid.{Laid, IsLaid}
+use Rattle.sched_embedded.proofs.Prelude.{sym, ◌∙◌, subst, IsLeafAddress, Laid, IsLaid}
 use Rattle.sched_embedded.proofs.embedding.Embedding.image.Goals as goal
 
 pub returns-clause-leaf : goal.returns-clause-leaf

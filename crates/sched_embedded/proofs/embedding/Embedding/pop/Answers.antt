@@ -1,13 +1,4 @@
-use Rattle.std.proofs.Common.{◌≡◌, length, List, ℕ, refl, sym, ap, ◌∙◌, subst, arith}
-use Rattle.std.proofs.lemmas.List.{with_items_is}
-use Rattle.tree_defs.specs.Tree.{LeadsToLeaf}
-use Rattle.embed_defs.specs.Family.{Pops}
-use Rattle.embed_defs.specs.Images.{image_map}
-use Rattle.embed_defs.specs.Lift.{picked_ranks}
-use Rattle.embed_defs.specs.GoodMaps.{IsGoodMap}
-use Rattle.embed_core.specs.Picks.{IsLeafImage}
-use Rattle.embed_core.specs.Lanes.{AreLeafLanes}
-use Rattle.sched_embedded.specs.Laid.{Laid}
+use Rattle.sched_embedded.proofs.Prelude.{sym, ℕ, ◌∙◌, ap, ◌≡◌, subst, List, arith, length, refl, with_items_is, AreLeafLanes, IsLeafImage, Pops, IsGoodMap, image_map, picked_ranks, LeadsToLeaf, Laid}
 use Rattle.sched_embedded.proofs.LiftMoves.{picked, leaf_image, pops_nothing}
 use Rattle.sched_embedded.proofs.embedding.Embedding.pop.Goals as goal
 

@@ -1,15 +1,6 @@
-use Rattle.std.proofs.Common.{◌≡◌, ◌+◌, ◌<◌, length, List, ℕ, map, sym, ap, ◌∙◌, subst}
-use Rattle.std.specs.Prelude.{slice_index}
-use Rattle.std.specs.List.{AllByRecursion}
-use Rattle.embed_defs.specs.Family.{AreRanks, push_along}
-use Rattle.embed_defs.specs.Spills.{spills_along}
-use Rattle.embed_defs.specs.Images.{image_map}
-use Rattle.embed_defs.specs.Lift.{lift_ranks}
-use Rattle.embed_defs.specs.GoodMaps.{IsGoodMap}
+use Rattle.sched_embedded.proofs.Prelude.{sym, ℕ, ◌∙◌, ap, ◌≡◌, subst, List, length, ◌+◌, map, ◌<◌, AllByRecursion, slice_index, AreRanks, push_along, IsGoodMap, image_map, lift_ranks, spills_along, raised, Laid, IsLaid}
 use Rattle.embed_core.proofs.LaneLifts.{lane-lift, lane-within}
 use Rattle.rank_core.proofs.Lists.{refilled}
-use Rattle.sched_core.specs.Spills.{raised}
-use Rattle.sched_embedded.specs.Laid.{Laid, IsLaid}
 use Rattle.sched_embedded.proofs.LowRanks.{lifted-low}
 use Rattle.sched_embedded.proofs.MapShapes.{leaf_long}
 use Rattle.sched_embedded.proofs.LiftMoves.{pushed, spilled}

@@ -1,6 +1,4 @@
-use Rattle.std.proofs.Common.{◌∙◌, arith}
-use Rattle.std.proofs.lemmas.Result.{err_from_is_err_and}
-use Rattle.sched_run.specs.Courses.{course_of}
+use Rattle.sched_run.proofs.Prelude.{arith, ◌∙◌, err_from_is_err_and, course_of}
 use Rattle.sched_run.proofs.TotalLaws.{has_totals}
 use Rattle.sched_run.proofs.ReportLaws.{heard_lines, lines_heard, amid_heard, runs_heard, breaks_heard, watched}
 use Rattle.sched_run.proofs.course.Run+C+N+Report.play.Goals as goal

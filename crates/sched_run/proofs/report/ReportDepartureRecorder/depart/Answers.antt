@@ -1,9 +1,4 @@
-use Rattle.std.proofs.Common.{List, ℕ, subst, sym, append-nil}
-use Rattle.std.specs.Prelude.{None}
-use Rattle.std.proofs.lemmas.Result.{on_ok_weaker, on_err_weaker}
-use Rattle.report_core.specs.Gathered.{Tells, CutsOff}
-use Rattle.sched_defs.specs.Events.{Depart}
-use Rattle.sched_run.specs.Played.{line_of}
+use Rattle.sched_run.proofs.Prelude.{ℕ, None, sym, List, subst, append-nil, on_err_weaker, on_ok_weaker, CutsOff, Tells, Depart, line_of}
 use Rattle.sched_run.proofs.report.ReportDepartureRecorder.depart.Goals as goal
 
 pub returns-in-None-clause-departs : goal.returns-in-None-clause-departs

@@ -1,10 +1,6 @@
-use Rattle.std.proofs.Common.{[], ◌∷◌, refl, subst, arith, ◌∙◌, sym}
-use Rattle.std.proofs.lemmas.Result.{err_from_is_err_and}
-use Rattle.policy_defs.specs.Policy.{Policy}
-use Rattle.sched_defs.specs.Numbered.{IsSendable}
+use Rattle.sched_run.proofs.Prelude.{arith, ◌∙◌, refl, sym, subst, [], ◌∷◌, err_from_is_err_and, Policy, IsSendable, heard, IsCapturedAs}
 use Rattle.sched_run.proofs.MadeEvents.{can_arrive, makes_none, stops_none}
 use Rattle.sched_run.proofs.PacketsInTurn.{none_first, one_first}
-use Rattle.sched_run.specs.Heard.{heard, IsCapturedAs}
 use Rattle.sched_run.proofs.HeardLaws.{heard-joined, heard_gives, makes_so, stops_so}
 use Rattle.sched_defs.specs.Events.{Arrive}
 use Rattle.sched_run.proofs.run.Run.arrive_next.Goals as goal

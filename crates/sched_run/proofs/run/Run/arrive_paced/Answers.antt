@@ -1,8 +1,6 @@
-use Rattle.std.proofs.Common.{◌==◌, if◌then◌else◌, max, ℕ, refl, ap, ◌∙◌, arith}
-use Rattle.std.proofs.lemmas.Result.{err_from_is_err_and}
+use Rattle.sched_run.proofs.Prelude.{ℕ, arith, ◌∙◌, refl, ap, if◌then◌else◌, max, ◌==◌, err_from_is_err_and, any_bytes, IsCapturedAs, heard_with}
 use Rattle.sched_run.proofs.LinkLaws.{turn_stops_amid, turn_first, turn_stands, turn_pushes, turn_goes, turn_stops}
 use Rattle.sched_run.proofs.MadeEvents.{held_more}
-use Rattle.sched_run.specs.Heard.{heard_with, IsCapturedAs, any_bytes}
 use Rattle.sched_run.proofs.HeardLaws.{heard-joined, heard_gives, sends_so, sends_amid_so, sends_first_so}
 use Rattle.sched_run.proofs.run.Run.arrive_paced.Goals as goal
 

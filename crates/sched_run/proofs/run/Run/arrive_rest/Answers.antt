@@ -1,12 +1,9 @@
-use Rattle.std.proofs.Common.{◌+◌, refl, arith, map, Some, None}
-use Rattle.std.proofs.lemmas.Result.{err_from_is_err_and}
-use Rattle.outside_core.proofs.KeptLaws.{sink-same, sink-then}
+use Rattle.sched_run.proofs.Prelude.{arith, None, refl, ◌+◌, Some, map, err_from_is_err_and, sink-then, sink-same, heard}
 use Rattle.sched_run.proofs.FrameLaws.{continues_then, keeps_then}
 use Rattle.sched_defs.specs.Events.{Arrive}
 use Rattle.sched_run.proofs.EventCounts.{arrivals_in-arrivals, departures_in-arrivals}
 use Rattle.sched_run.proofs.PacketsInTurn.{fewer_left, one_after, room_after, arrives_none, arrives_more, arrives_end, arrivals_stop}
 use Rattle.sched_run.proofs.StepLaws.{rest_done, rest_stops}
-use Rattle.sched_run.specs.Heard.{heard}
 use Rattle.sched_run.proofs.HeardLaws.{heard-joined, heard_gives, arrives_so, arrivals_stop_so}
 use Rattle.sched_run.proofs.run.Run.arrive_rest.Goals as goal
 

@@ -1,10 +1,4 @@
-use Rattle.std.proofs.Common.{◌-◌, ℕ, None}
-use Rattle.outside_core.specs.Kept.{KeepsSink}
-use Rattle.tap_core.specs.Watching.{sight_of, AreNoMore}
-use Rattle.sched_run.specs.Stages.{stage_of}
-use Rattle.sched_run.specs.Frames.{Continues, KeepsPackets, IsFurther}
-use Rattle.sched_run.specs.Turns.{Arrives}
-use Rattle.sched_run.specs.Heard.{heard}
+use Rattle.sched_run.proofs.Prelude.{ℕ, None, ◌-◌, KeepsSink, sight_of, AreNoMore, Continues, KeepsPackets, IsFurther, heard, stage_of, Arrives}
 use Rattle.sched_run.proofs.run.Run.arrive_rest.Given as goal
 
 abbrev pub invariant-loop-ending : goal.invariant-loop-ending

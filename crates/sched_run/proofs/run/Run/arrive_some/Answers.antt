@@ -1,11 +1,8 @@
-use Rattle.std.proofs.Common.{refl, sym, arith, map, Some, None}
-use Rattle.std.proofs.lemmas.Result.{err_from_is_err_and}
-use Rattle.outside_core.proofs.KeptLaws.{sink-same, sink-then}
+use Rattle.sched_run.proofs.Prelude.{arith, None, refl, sym, Some, map, err_from_is_err_and, sink-then, sink-same, heard}
 use Rattle.sched_run.proofs.FrameLaws.{continues_then, keeps_then}
 use Rattle.sched_defs.specs.Events.{Arrive}
 use Rattle.sched_run.proofs.EventCounts.{departures_in-arrivals}
 use Rattle.sched_run.proofs.PacketsInTurn.{some_is, none_is, one_after, room_after, arrives_none, arrives_more, arrives_end, arrivals_stop}
-use Rattle.sched_run.specs.Heard.{heard}
 use Rattle.sched_run.proofs.HeardLaws.{heard-joined, heard_gives, arrives_so, arrivals_stop_so}
 use Rattle.sched_run.proofs.run.Run.arrive_some.Goals as goal
 

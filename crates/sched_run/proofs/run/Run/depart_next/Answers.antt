@@ -1,9 +1,6 @@
-use Rattle.std.proofs.Common.{[], ◌∷◌}
-use Rattle.std.proofs.lemmas.Result.{err_from_is_err_and}
-use Rattle.sched_defs.specs.Events.{Depart}
+use Rattle.sched_run.proofs.Prelude.{[], ◌∷◌, err_from_is_err_and, Depart, any_bytes, heard_anyway}
 use Rattle.sched_run.proofs.JoinedEvents.{made_departure, made_all}
 use Rattle.sched_run.proofs.MadeEvents.{stops_here}
-use Rattle.sched_run.specs.Heard.{heard_anyway, any_bytes}
 use Rattle.sched_run.proofs.HeardLaws.{heard-joined}
 use Rattle.sched_run.proofs.run.Run.depart_next.Goals as goal
 

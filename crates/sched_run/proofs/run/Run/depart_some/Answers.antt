@@ -1,12 +1,7 @@
-use Rattle.std.proofs.Common.{◌≡◌, ◌+◌, ℕ, None, arith, ap, refl, replicate, sym, ◌∙◌}
-use Rattle.std.proofs.lemmas.Result.{err_from_is_err_and}
-use Rattle.outside_core.proofs.KeptLaws.{sink-same, sink-then}
-use Rattle.sched_defs.specs.Events.{Depart}
-use Rattle.sched_defs.proofs.Runs.{departures_count}
+use Rattle.sched_run.proofs.Prelude.{ℕ, arith, None, ◌∙◌, ◌≡◌, refl, sym, ◌+◌, ap, replicate, err_from_is_err_and, sink-then, sink-same, departures_count, Depart, any_bytes, heard_anyway}
 use Rattle.sched_run.proofs.FrameLaws.{continues_then}
 use Rattle.sched_run.proofs.MadeEvents.{held_bounded, makes_none, departures_more, departures_cut}
 use Rattle.sched_run.proofs.PacketsInTurn.{one_after}
-use Rattle.sched_run.specs.Heard.{heard_anyway, any_bytes}
 use Rattle.sched_run.proofs.HeardLaws.{heard-joined}
 use Rattle.sched_run.proofs.run.Run.depart_some.Goals as goal
 

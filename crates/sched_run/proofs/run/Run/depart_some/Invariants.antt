@@ -1,10 +1,4 @@
-use Rattle.std.proofs.Common.{◌≡◌, ◌+◌, ℕ, None, replicate}
-use Rattle.outside_core.specs.Kept.{KeepsSink}
-use Rattle.sched_defs.specs.Events.{Depart}
-use Rattle.tap_core.specs.Watching.{sight_of, AreNoMore}
-use Rattle.sched_run.specs.Frames.{Continues}
-use Rattle.sched_run.specs.Stages.{stage_of, Makes}
-use Rattle.sched_run.specs.Heard.{heard_anyway}
+use Rattle.sched_run.proofs.Prelude.{ℕ, None, ◌≡◌, ◌+◌, replicate, KeepsSink, Depart, sight_of, AreNoMore, Continues, heard_anyway, Makes, stage_of}
 use Rattle.sched_run.proofs.run.Run.depart_some.Given as goal
 
 abbrev pub invariant-loop-made : goal.invariant-loop-made

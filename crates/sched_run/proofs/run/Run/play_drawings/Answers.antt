@@ -1,14 +1,8 @@
-use Rattle.std.proofs.Common.{◌≡◌, ℕ, refl, sym, ap, ◌∙◌, subst, arith, add-one}
-use Rattle.std.proofs.lemmas.Result.{err_from_is_err_and}
-use Rattle.outside_core.proofs.KeptLaws.{sink-same, sink-then}
-use Rattle.sched_defs.specs.Numbered.{IsHeldBelow}
-use Rattle.sched_run.specs.declared.drawing.Drawing.{Drawing}
-use Rattle.sched_run.specs.Load.{load_events, load_next, first_drawing}
+use Rattle.sched_run.proofs.Prelude.{ℕ, arith, ◌∙◌, ◌≡◌, refl, sym, subst, ap, add-one, err_from_is_err_and, sink-then, sink-same, IsHeldBelow, heard_without, no_bytes, first_drawing, load_events, load_next, Drawing}
 use Rattle.sched_run.proofs.FrameLaws.{continues_then}
 use Rattle.sched_run.proofs.LoadLaws.{is_drawn, load_room, load_arrivals, load_arrivals-more, load_goes, load_stops}
 use Rattle.sched_run.proofs.MadeEvents.{makes_none}
 use Rattle.sched_run.proofs.PacketsInTurn.{one_after}
-use Rattle.sched_run.specs.Heard.{heard_without, no_bytes}
 use Rattle.sched_run.proofs.HeardLaws.{heard-joined}
 use Rattle.sched_run.proofs.run.Run.play_drawings.Goals as goal
 

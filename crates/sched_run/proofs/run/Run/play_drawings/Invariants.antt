@@ -1,11 +1,5 @@
-use Rattle.std.proofs.Common.{◌≡◌, ◌≤◌, ◌+◌, ◌*◌}
-use Rattle.outside_core.specs.Kept.{KeepsSink}
-use Rattle.tap_core.specs.Watching.{sight_of, AreNoMore}
-use Rattle.sched_run.specs.Frames.{Continues}
-use Rattle.sched_run.specs.Load.{load_events, first_drawing}
-use Rattle.sched_run.specs.Stages.{stage_of, arrivals_in, Makes}
+use Rattle.sched_run.proofs.Prelude.{◌≡◌, ◌+◌, ◌≤◌, ◌*◌, KeepsSink, sight_of, AreNoMore, Continues, heard_without, first_drawing, load_events, Makes, arrivals_in, stage_of}
 use Rattle.sched_run.proofs.LoadLaws.{load_after}
-use Rattle.sched_run.specs.Heard.{heard_without}
 use Rattle.sched_run.proofs.run.Run.play_drawings.Given as goal
 
 abbrev pub invariant-loop-drawn : goal.invariant-loop-drawn

@@ -1,11 +1,6 @@
-use Rattle.std.proofs.Common.{◌≡◌, ◌+◌, ℕ, None, [], ◌∷◌, sym, subst, arith}
-use Rattle.std.specs.Prelude.{OnOk, OnErr}
-use Rattle.std.proofs.lemmas.Result.{err_from_is_err_and, on_ok_weaker, on_err_weaker}
-use Rattle.sched_defs.specs.Events.{Event, Depart, Arrive}
-use Rattle.tap_core.specs.Watching.{sight_of}
-use Rattle.sched_run.specs.Stages.{stage_of, packets_in, arrivals_in, AreNext, Makes, Stops}
+use Rattle.sched_run.proofs.Prelude.{ℕ, arith, None, ◌≡◌, sym, subst, [], ◌+◌, ◌∷◌, err_from_is_err_and, on_err_weaker, on_ok_weaker, OnErr, OnOk, Depart, Event, sight_of, any_bytes, IsCapturedAs, heard_without, no_bytes, Makes, arrivals_in, stage_of, Stops, AreNext, packets_in}
+use Rattle.sched_defs.specs.Events.{Arrive}
 use Rattle.sched_run.proofs.LoadLaws.{event_next, drawn_can_arrive}
-use Rattle.sched_run.specs.Heard.{heard_without, any_bytes, no_bytes, IsCapturedAs}
 use Rattle.sched_run.proofs.HeardLaws.{heard_gives, makes_so, stops_so}
 use Rattle.sched_run.proofs.run.Run.play_drawn.Goals as goal
 

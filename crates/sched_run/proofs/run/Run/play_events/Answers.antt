@@ -1,6 +1,4 @@
-use Rattle.std.proofs.lemmas.Result.{err_from_is_err_and, on_err_weaker}
-use Rattle.sched_run.specs.Courses.{link_agenda}
-use Rattle.sched_run.specs.Heard.{heard}
+use Rattle.sched_run.proofs.Prelude.{err_from_is_err_and, on_err_weaker, link_agenda, heard}
 use Rattle.sched_run.proofs.AgendaLaws.{stops_amid}
 use Rattle.sched_run.proofs.HeardLaws.{heard-joined}
 use Rattle.sched_run.proofs.run.Run.play_events.Goals as goal

@@ -1,11 +1,7 @@
-use Rattle.std.proofs.Common.{◌≡◌, ◌+◌, ℕ, refl, sym, subst, arith, ◌∙◌}
-use Rattle.std.proofs.lemmas.Result.{err_from_is_err_and}
-use Rattle.outside_core.proofs.KeptLaws.{sink-same, sink-then}
-use Rattle.sched_defs.specs.Numbered.{IsHeldBelow}
+use Rattle.sched_run.proofs.Prelude.{ℕ, arith, ◌∙◌, ◌≡◌, refl, sym, subst, ◌+◌, err_from_is_err_and, sink-then, sink-same, IsHeldBelow, heard, any_bytes, IsCapturedAs}
 use Rattle.sched_run.proofs.AgendaLaws.{run_stops_going, run_goes, run_ends, run_breaks, run_first, run_ready, run_room}
 use Rattle.sched_run.proofs.FrameLaws.{continues_then, keeps_then}
 use Rattle.sched_run.proofs.LinkLaws.{same_sends, same_first, link_begins, link_goes, link_stops, link_first, link_drains, link_drain_stops, link_drain_first}
-use Rattle.sched_run.specs.Heard.{heard, any_bytes, IsCapturedAs}
 use Rattle.sched_run.proofs.HeardLaws.{heard-joined, heard_gives, sends_so, sends_first_so, sends_amid_so}
 use Rattle.sched_run.proofs.run.Run.play_link.Goals as goal
 

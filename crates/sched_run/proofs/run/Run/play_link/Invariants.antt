@@ -1,12 +1,5 @@
-use Rattle.std.proofs.Common.{◌≡◌, ◌-◌, false}
-use Rattle.outside_core.specs.Kept.{KeepsSink}
-use Rattle.sched_run.specs.Courses.{link_agenda}
-use Rattle.sched_run.specs.Frames.{Continues, KeepsPackets, IsFurther}
-use Rattle.sched_run.specs.Links.{IsEarly}
-use Rattle.tap_core.specs.Watching.{sight_of, AreNoMore}
-use Rattle.sched_run.specs.Stages.{stage_of}
+use Rattle.sched_run.proofs.Prelude.{◌≡◌, false, ◌-◌, KeepsSink, sight_of, AreNoMore, link_agenda, Continues, KeepsPackets, IsFurther, heard, IsEarly, stage_of}
 use Rattle.sched_run.proofs.AgendaLaws.{HasRun}
-use Rattle.sched_run.specs.Heard.{heard}
 use Rattle.sched_run.proofs.run.Run.play_link.Given as goal
 
 abbrev pub invariant-loop-packets : goal.invariant-loop-packets

@@ -1,12 +1,8 @@
-use Rattle.std.proofs.Common.{None, ◌++◌, replicate, ◌∙◌, arith, ℕ}
-use Rattle.std.proofs.lemmas.Result.{err_from_is_err_and}
-use Rattle.sched_defs.specs.Events.{Depart}
-use Rattle.sched_run.specs.Load.{load_events, first_drawing}
+use Rattle.sched_run.proofs.Prelude.{ℕ, arith, None, ◌∙◌, ◌++◌, replicate, err_from_is_err_and, Depart, any_bytes, heard_without, no_bytes, first_drawing, load_events}
 use Rattle.sched_run.proofs.LoadLaws.{load_room, load_held, load_stops_drawing, load_stops_draining, load_done}
 use Rattle.sched_run.proofs.MadeEvents.{makes_both}
 use Rattle.sched_run.proofs.PacketsInTurn.{one_after}
 use Rattle.sched_run.proofs.TotalLaws.{has_totals}
-use Rattle.sched_run.specs.Heard.{heard_without, no_bytes, any_bytes}
 use Rattle.sched_run.proofs.HeardLaws.{heard-joined, heard_gives, makes_so, stops_so}
 use Rattle.sched_run.proofs.run.Run.play_load.Goals as goal
 

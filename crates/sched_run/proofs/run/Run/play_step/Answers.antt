@@ -1,9 +1,6 @@
-use Rattle.std.proofs.lemmas.Result.{err_from_is_err_and}
+use Rattle.sched_run.proofs.Prelude.{None, replicate, err_from_is_err_and, Depart, heard, any_bytes}
 use Rattle.sched_run.proofs.StepLaws.{if_ok_turned, on_err_turned, some_done, some_stops, departures_done, departures_stop, drain_done, drain_stops}
-use Rattle.sched_run.specs.Heard.{heard, any_bytes}
 use Rattle.sched_run.proofs.HeardLaws.{heard_gives, makes_so, stops_so}
-use Rattle.std.proofs.Common.{None, replicate}
-use Rattle.sched_defs.specs.Events.{Depart}
 use Rattle.sched_run.proofs.run.Run.play_step.Goals as goal
 
 pub returns-in_err-depart_some-in-Depart-clause-err : goal.returns-in_err-depart_some-in-Depart-clause-err

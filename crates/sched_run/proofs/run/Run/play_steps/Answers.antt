@@ -1,16 +1,10 @@
-use Rattle.std.proofs.Common.{◌<◌, ◌≤◌, suc, length, drop, drop-cons, add-one, refl, arith}
-use Rattle.std.proofs.lemmas.Result.{err_from_is_err_and}
+use Rattle.sched_run.proofs.Prelude.{arith, refl, ◌≤◌, length, ◌<◌, suc, add-one, drop, drop-cons, err_from_is_err_and, counts_of, sink-then, sink-same, script_agenda, heard, event_of}
 use Rattle.std.proofs.Math.ListN.{drop_of_length-le}
-use Rattle.outside_core.proofs.KeptLaws.{sink-same, sink-then}
 use Rattle.sched_run.proofs.FrameLaws.{continues_then, keeps_then}
 use Rattle.events_core.specs.declared.step.Step.TheVariants.{Arrive}
 use Rattle.sched_run.proofs.StepLaws.{if_ok_turned, on_err_given}
-use Rattle.events_core.specs.Steps.{counts_of}
-use Rattle.sched_run.specs.Courses.{script_agenda}
-use Rattle.sched_run.specs.Stages.{event_of}
 use Rattle.sched_run.proofs.AgendaLaws.{run_none, run_over, run_stops_amid, run_goes, run_ends, run_stops, run_ready, run_room}
 use Rattle.sched_run.proofs.CourseLaws.{step_goes, step_ends, step_stops, no_step}
-use Rattle.sched_run.specs.Heard.{heard}
 use Rattle.sched_run.proofs.HeardLaws.{heard-joined, heard_gives, turns_so, amid_so}
 use Rattle.sched_run.proofs.run.Run.play_steps.Goals as goal
 

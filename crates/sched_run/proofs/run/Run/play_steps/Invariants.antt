@@ -1,12 +1,5 @@
-use Rattle.std.proofs.Common.{drop}
-use Rattle.outside_core.specs.Kept.{KeepsSink}
-use Rattle.events_core.specs.Steps.{counts_of}
-use Rattle.tap_core.specs.Watching.{sight_of, AreNoMore}
-use Rattle.sched_run.specs.Stages.{stage_of}
-use Rattle.sched_run.specs.Frames.{Continues, KeepsPackets, IsFurther}
-use Rattle.sched_run.specs.Courses.{script_agenda}
+use Rattle.sched_run.proofs.Prelude.{drop, counts_of, KeepsSink, sight_of, AreNoMore, script_agenda, Continues, KeepsPackets, IsFurther, heard, stage_of}
 use Rattle.sched_run.proofs.AgendaLaws.{HasRun}
-use Rattle.sched_run.specs.Heard.{heard}
 use Rattle.sched_run.proofs.run.Run.play_steps.Given as goal
 
 abbrev pub invariant-loop-step : goal.invariant-loop-step

@@ -1,12 +1,7 @@
-use Rattle.std.proofs.Common.{◌≡◌, ◌<◌, ◌≤◌, List, ℕ, [], ◌∷◌, length, sym, subst, ◌∙◌, arith}
-use Rattle.std.proofs.lemmas.Result.{err_from_is_err_and}
-use Rattle.tree_defs.specs.Tree.{nodes}
-use Rattle.policy_defs.specs.Policy.{Policy}
-use Rattle.sched_defs.specs.SourceState.{class_of}
-use Rattle.sched_defs.specs.Events.{Arrive, Outcome}
+use Rattle.sched_run.proofs.Prelude.{ℕ, arith, ◌∙◌, ◌≡◌, sym, List, subst, [], ◌≤◌, ◌∷◌, length, ◌<◌, err_from_is_err_and, Policy, Outcome, class_of, nodes, IsCapturedAs, heard_with}
+use Rattle.sched_defs.specs.Events.{Arrive}
 use Rattle.sched_run.proofs.JoinedEvents.{cut_none, made_arrival, made_all, made_some_none}
 use Rattle.sched_run.proofs.LineLaws.{arrives, arrival_few, named_leaf, answer_pushed, answer_dropped, outcome_pushed, outcome_dropped}
-use Rattle.sched_run.specs.Heard.{heard_with, IsCapturedAs}
 use Rattle.sched_run.proofs.HeardLaws.{heard-joined}
 use Rattle.sched_run.proofs.run.Run.record_arrival.Goals as goal
 

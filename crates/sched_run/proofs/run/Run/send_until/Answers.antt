@@ -1,10 +1,7 @@
-use Rattle.std.proofs.Common.{◌≡◌, true, refl, sym, ◌∙◌, arith}
-use Rattle.std.proofs.lemmas.Result.{err_from_is_err_and}
-use Rattle.outside_core.proofs.KeptLaws.{sink-same, sink-then}
+use Rattle.sched_run.proofs.Prelude.{arith, ◌∙◌, ◌≡◌, refl, sym, true, err_from_is_err_and, sink-then, sink-same, any_bytes, heard_anyway}
 use Rattle.sched_run.proofs.FrameLaws.{continues_then}
 use Rattle.sched_run.proofs.LinkLaws.{sends_none, sends_waits, sends_over, sends_stand, sends_asked, sends_goes, sends_first, sends_stops}
 use Rattle.sched_run.proofs.MadeEvents.{held_more}
-use Rattle.sched_run.specs.Heard.{heard_anyway, any_bytes}
 use Rattle.sched_run.proofs.HeardLaws.{heard-joined}
 use Rattle.sched_run.proofs.run.Run.send_until.Goals as goal
 

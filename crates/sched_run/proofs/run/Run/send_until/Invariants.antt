@@ -1,11 +1,5 @@
-use Rattle.std.proofs.Common.{◌≡◌, ◌+◌, ℕ, false}
-use Rattle.outside_core.specs.Kept.{KeepsSink}
-use Rattle.sched_run.specs.Frames.{Continues}
-use Rattle.sched_run.specs.Links.{IsEarly}
-use Rattle.tap_core.specs.Watching.{sight_of, AreNoMore}
-use Rattle.sched_run.specs.Stages.{stage_of}
+use Rattle.sched_run.proofs.Prelude.{ℕ, ◌≡◌, ◌+◌, false, KeepsSink, sight_of, AreNoMore, Continues, heard_anyway, IsEarly, stage_of}
 use Rattle.sched_run.proofs.LinkLaws.{SendsPart}
-use Rattle.sched_run.specs.Heard.{heard_anyway}
 use Rattle.sched_run.proofs.run.Run.send_until.Given as goal
 
 abbrev pub invariant-loop-sent : goal.invariant-loop-sent

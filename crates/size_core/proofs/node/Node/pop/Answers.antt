@@ -1,7 +1,4 @@
-use Rattle.std.proofs.Common.{◌≡◌, ◌-◌, ℕ, max, Option, None, Some, option_map, ap, sym, ◌∙◌, subst, refl, arith}
-use Rattle.tree_defs.specs.Queue.{Queue, Taking, take_least}
-use Rattle.size_core.specs.Stores.{store_popped}
-use Rattle.size_core.specs.Use.{spread}
+use Rattle.size_core.proofs.Prelude.{◌≡◌, ◌∙◌, ℕ, sym, ap, arith, subst, Some, refl, Option, None, ◌-◌, max, option_map, Queue, Taking, take_least, store_popped, spread}
 use Rattle.size_core.proofs.UseLaws.{Popped, after_pop, has_taken}
 use Rattle.size_core.proofs.node.Node.pop.Goals as goal
 

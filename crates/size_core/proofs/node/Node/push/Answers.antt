@@ -1,8 +1,4 @@
-use Rattle.std.proofs.Common.{◌≡◌, ℕ, ◌+◌, ◌==◌, max, if◌then◌else◌, length, option_map, ap, sym, ◌∙◌, subst}
-use Rattle.tree_defs.specs.Queue.{Queue, put}
-use Rattle.size_core.specs.Stores.{store_pushed}
-use Rattle.size_core.specs.Use.{spread}
-use Rattle.size_core.specs.Watching.{IsCrest}
+use Rattle.size_core.proofs.Prelude.{◌≡◌, ◌∙◌, ℕ, length, sym, ap, subst, ◌+◌, if◌then◌else◌, ◌==◌, max, option_map, Queue, put, store_pushed, spread, IsCrest}
 use Rattle.size_core.proofs.UseLaws.{spread-put, crest-put, span-pushed}
 use Rattle.size_core.proofs.node.Node.push.Goals as goal
 

@@ -1,9 +1,4 @@
-use Rattle.std.proofs.Common.{◌≡◌, ℕ, Option, List, length, ap, sym, ◌∙◌, subst, refl}
-use Rattle.size_core.specs.declared.limits.Passed.{Passed}
-use Rattle.size_core.specs.Use.{Use, pushed}
-use Rattle.size_core.specs.Limits.{first_of}
-use Rattle.size_core.specs.Hops.{rank_on, value_on, passed_at}
-use Rattle.size_core.specs.Watching.{Has}
+use Rattle.size_core.proofs.Prelude.{◌≡◌, ◌∙◌, ℕ, length, sym, ap, List, subst, refl, Option, passed_at, rank_on, value_on, first_of, Use, pushed, Has, Passed}
 use Rattle.size_core.proofs.QueueLaws.{after_push}
 use Rattle.size_core.proofs.queues.Queues.push_at.Goals as goal
 

@@ -1,16 +1,5 @@
-use Rattle.std.proofs.Common.{◌≡◌, ◌<◌, ℕ, Option, Some, IfSome, List, [], length, refl, sym, ap, ◌∙◌, subst, arith}
-use Rattle.std.specs.Prelude.{slice_get, unwrap_or, Vec}
+use Rattle.size_core.proofs.Prelude.{◌≡◌, ◌∙◌, ℕ, length, sym, ap, List, arith, subst, ◌<◌, IfSome, Some, [], refl, Option, slice_get, Vec, unwrap_or, image_map, address_at, Laid, leaf_of, Address, IsServed, address_in, IsOnce, IsPathTo, add_paths, name_in, IsNameAt, Hop}
 use Rattle.std.specs.declared.alloc.Global.{Global}
-use Rattle.tree_defs.specs.Tree.{Address}
-use Rattle.policy_core.specs.Numbering.{address_at}
-use Rattle.embed_defs.specs.Images.{image_map}
-use Rattle.sched_embedded.specs.Laid.{Laid, leaf_of}
-use Rattle.size_core.specs.declared.hop.Hop.{Hop}
-use Rattle.size_core.specs.Paths.{IsOnce, IsPathTo, address_in}
-use Rattle.size_core.specs.Places.{add_paths}
-use Rattle.size_core.specs.Sizes.{IsNameAt}
-use Rattle.size_core.specs.Names.{IsServed}
-use Rattle.size_core.specs.Results.{name_in}
 use Rattle.size_core.proofs.Lists.{some_at, path-inside, in_range, each_weaker}
 use Rattle.size_core.proofs.NameLaws.{once, name-is, name-at}
 use Rattle.size_core.proofs.sizing.Sizing.new.Goals as goal

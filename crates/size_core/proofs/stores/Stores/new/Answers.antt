@@ -1,5 +1,4 @@
-use Rattle.std.proofs.Common.{List, [], ℕ, ap, sym, ◌∙◌, arith}
-use Rattle.size_core.specs.Stores.{heads_in}
+use Rattle.size_core.proofs.Prelude.{◌∙◌, ℕ, sym, ap, List, arith, [], heads_in}
 use Rattle.size_core.proofs.StoreLaws.{heads-none}
 use Rattle.size_core.proofs.stores.Stores.new.Goals as goal
 

@@ -1,6 +1,4 @@
-use Rattle.std.proofs.Common.{◌≡◌, ◌<◌, ◌-◌, ◌∙◌, ℕ, true, ap, sym, arith, rules, length, map, drop, deque_items, length-set, get_or}
-use Rattle.std.proofs.lemmas.List.{get_or-set_same}
-use Rattle.size_core.specs.Stores.{flow_of, head_in, leads, store_popped}
+use Rattle.size_core.proofs.Prelude.{◌≡◌, ◌∙◌, ℕ, length, sym, ap, arith, ◌<◌, map, true, ◌-◌, get_or, drop, deque_items, length-set, rules, get_or-set_same, flow_of, store_popped, head_in, leads}
 use Rattle.size_core.proofs.StoreLaws.{same_read, heads-after_pop, after_pop}
 use Rattle.size_core.proofs.stores.Stores.pop.Goals as goal
 

@@ -1,8 +1,5 @@
-use Rattle.std.proofs.Common.{◌≡◌, ◌<◌, ◌+◌, ◌-◌, ◌∙◌, ℕ, nat_lt, max, false, true, ap, sym, arith, rules, length, map, deque_items, length-set, set, List}
-use Rattle.std.proofs.lemmas.Bool.Decides.{nat_tests}
+use Rattle.size_core.proofs.Prelude.{◌≡◌, ◌∙◌, ℕ, length, sym, ap, List, arith, ◌+◌, ◌<◌, map, false, true, ◌-◌, nat_lt, set, max, deque_items, length-set, rules, nat_tests, flow_of, Stores, head_in, store_pushed, last_rank, StoreUse}
 use Rattle.std.proofs.Math.Seq.{map-set_same}
-use Rattle.size_core.specs.declared.size.StoreUse.{StoreUse}
-use Rattle.size_core.specs.Stores.{Stores, flow_of, head_in, last_rank, store_pushed}
 use Rattle.size_core.proofs.StoreLaws.{same_read, heads-below, heads-after_push, after_push, after_spill}
 use Rattle.size_core.proofs.stores.Stores.push.Goals as goal
 

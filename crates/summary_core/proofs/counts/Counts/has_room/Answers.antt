@@ -1,5 +1,4 @@
-use Rattle.std.proofs.Common.{◌^◌}
-use Rattle.std.proofs.lemmas.Bool.{ltb-true}
+use Rattle.summary_core.proofs.Prelude.{◌^◌, ltb-true}
 use Rattle.summary_core.proofs.JoinedBits.{both_below}
 use Rattle.summary_core.proofs.counts.Counts.has_room.Goals as goal
 

@@ -1,7 +1,4 @@
-use Rattle.std.proofs.Common.{◌≡◌}
-use Rattle.summary_core.specs.Parts.{joined, is_in}
-use Rattle.summary_core.specs.Lists.{list_at}
-use Rattle.summary_core.specs.Ranks.{listed}
+use Rattle.summary_core.proofs.Prelude.{◌≡◌, list_at, is_in, joined, listed}
 use Rattle.summary_core.proofs.summary.Summary.members.Given as goal
 
 abbrev pub invariant-loop-class : goal.invariant-loop-class

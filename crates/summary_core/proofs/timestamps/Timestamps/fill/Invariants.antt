@@ -1,5 +1,4 @@
-use Rattle.std.proofs.Common.{◌≡◌, ℕ, length}
-use Rattle.summary_core.specs.Timestamps.{stamp_in}
+use Rattle.summary_core.proofs.Prelude.{ℕ, length, ◌≡◌, stamp_in}
 use Rattle.summary_core.proofs.timestamps.Timestamps.fill.Given as goal
 
 abbrev pub invariant-loop : goal.invariant-loop

@@ -1,5 +1,4 @@
-use Rattle.std.proofs.Common.{◌≡◌, ◌≤◌, ◌-◌, ◌==◌, ℕ, Option, Some, List, length, if◌then◌else◌, ap, ◌∙◌, arith}
-use Rattle.summary_core.specs.Timestamps.{stamp_at}
+use Rattle.summary_core.proofs.Prelude.{ℕ, length, ◌≡◌, arith, List, ap, ◌≤◌, ◌∙◌, Some, if◌then◌else◌, Option, ◌-◌, ◌==◌, stamp_at}
 use Rattle.summary_core.proofs.Slots.{stored}
 use Rattle.summary_core.proofs.timestamps.Timestamps.put.Goals as goal
 

@@ -1,5 +1,4 @@
-use Rattle.std.proofs.Common.{rules, refl, sym}
-use Rattle.std.proofs.lemmas.List.{with_items_is}
+use Rattle.tap_core.proofs.Prelude.{refl, sym, rules, with_items_is}
 use Rattle.tap_core.proofs.WatchLaws.{shows_one}
 use Rattle.tap_core.proofs.watching.Watching.dropped.Goals as goal
 

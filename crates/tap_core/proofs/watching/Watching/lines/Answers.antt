@@ -1,8 +1,4 @@
-use Rattle.std.proofs.Common.{◌≡◌, ℕ, List, Vec, Result, Ok, Err}
-use Rattle.std.specs.Prelude.{IfOk}
-use Rattle.std.specs.declared.alloc.Global.{Global}
-use Rattle.tap_core.specs.declared.kinds.TapKind.{TapKind}
-use Rattle.tap_core.specs.Lists.{Entry, entries, lines_of, Slot, Tracks}
+use Rattle.tap_core.proofs.Prelude.{◌≡◌, List, ℕ, Vec, Err, Ok, Result, IfOk, Global, entries, Entry, Slot, Tracks, lines_of, TapKind}
 use Rattle.tap_core.proofs.watching.Watching.lines.Goals as goal
 
 -- the text for every list of entries, if it holds for each of them

@@ -1,10 +1,4 @@
-use Rattle.std.proofs.Common.{rules, subst, ap, ◌∙◌, length, arith, ◌≡◌, ◌<◌, ◌++◌, [], ◌∷◌, get_or, take, map, List}
-use Rattle.std.proofs.lemmas.List.{take_all}
-use Rattle.tree_defs.specs.Tree.{trees_of, nodes, depth}
-use Rattle.tree_defs.specs.Topology.{IsBranched}
-use Rattle.tree_defs.specs.SourceTree.{empty_trees}
-use Rattle.tree_core.specs.Shape.{topology}
-use Rattle.tree_core.specs.declared.topo.Topo.{Topo}
+use Rattle.tree_core.proofs.Prelude.{arith, ◌≡◌, ap, ◌∙◌, get_or, length, ◌<◌, subst, List, [], ◌∷◌, take, rules, map, ◌++◌, take_all, empty_trees, IsBranched, depth, nodes, trees_of, topology, Topo}
 use Rattle.tree_core.proofs.NewTrees.{topology_inner, child_branched, child_smaller, child_shallower, are_branched, one_more, EachPushed-push, grown_tree, grown_sound}
 use Rattle.tree_core.proofs.tree.SourceTree.+new.Goals as goal
 

@@ -1,8 +1,4 @@
-use Rattle.std.proofs.Common.{◌≡◌, take, map}
-use Rattle.tree_defs.specs.Tree.{trees_of, nodes}
-use Rattle.tree_core.specs.TreeContents.{forest, EachPushed}
-use Rattle.tree_defs.specs.SourceTree.{empty_trees}
-use Rattle.tree_core.specs.Shape.{topology}
+use Rattle.tree_core.proofs.Prelude.{◌≡◌, take, map, empty_trees, nodes, trees_of, topology, forest, EachPushed}
 use Rattle.tree_core.proofs.tree.SourceTree.+new.Given as goal
 
 abbrev pub invariant-loop-child : goal.invariant-loop-child

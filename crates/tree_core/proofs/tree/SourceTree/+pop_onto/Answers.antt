@@ -1,7 +1,4 @@
-use Rattle.std.proofs.Common.{rules, ap, ◌∙◌, length, arith, ◌≡◌, ◌<◌, ◌^◌, ◌≤◌, ◌+◌, Some, refl}
-use Rattle.std.proofs.lemmas.List.{length_push}
-use Rattle.tree_defs.specs.Tree.{nodes, depth}
-use Rattle.tree_defs.specs.Queue.{take_least}
+use Rattle.tree_core.proofs.Prelude.{arith, ◌≡◌, ap, ◌∙◌, length, ◌<◌, ◌≤◌, refl, ◌+◌, ◌^◌, rules, Some, length_push, take_least, depth, nodes}
 use Rattle.tree_core.proofs.PopSteps.{node_held, leaf_popped, digit_within, child_held, child_shallower, child_smaller, node_popped, node_sound}
 use Rattle.tree_core.proofs.PlaceLaws.{no_fewer_below}
 use Rattle.tree_core.proofs.tree.SourceTree.+pop_onto.Goals as goal

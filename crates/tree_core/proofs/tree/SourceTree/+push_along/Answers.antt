@@ -1,8 +1,4 @@
-use Rattle.std.proofs.Common.{rules, ap, ◌∙◌, length, arith, ◌≡◌, ◌<◌, ◌^◌, get_or}
-use Rattle.tree_defs.specs.Queue.{put}
-use Rattle.tree_defs.specs.SourceTree.{push}
-use Rattle.tree_core.specs.Paths.{digits_of, ranks_of}
-use Rattle.tree_core.specs.TreeContents.{TreeContents}
+use Rattle.tree_core.proofs.Prelude.{arith, ◌≡◌, ap, ◌∙◌, get_or, length, ◌<◌, ◌^◌, rules, put, push, digits_of, ranks_of, TreeContents}
 use Rattle.tree_core.proofs.PushSteps.{leads_here, index_within, pushed_here, sound_here, sound_leaf, child_needs}
 use Rattle.tree_core.proofs.PlaceLaws.{used_here}
 use Rattle.tree_core.proofs.tree.SourceTree.+push_along.Goals as goal

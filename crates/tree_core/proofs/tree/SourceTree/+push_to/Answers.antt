@@ -1,7 +1,4 @@
-use Rattle.std.proofs.Common.{rules, ap, ◌∙◌, length, arith, ◌≡◌, ◌<◌, ◌^◌, get_or}
-use Rattle.tree_defs.specs.Queue.{put}
-use Rattle.tree_defs.specs.SourceTree.{push}
-use Rattle.tree_core.specs.TreeContents.{TreeContents}
+use Rattle.tree_core.proofs.Prelude.{arith, ◌≡◌, ap, ◌∙◌, get_or, length, ◌<◌, ◌^◌, rules, put, push, TreeContents}
 use Rattle.tree_core.proofs.PushSteps.{leads_here}
 use Rattle.tree_core.proofs.AddressSteps.{digit_within, needed_next, sound_next, pushed_next, used_next}
 use Rattle.tree_core.proofs.tree.SourceTree.+push_to.Goals as goal

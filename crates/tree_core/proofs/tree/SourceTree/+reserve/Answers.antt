@@ -1,5 +1,4 @@
-use Rattle.std.proofs.Common.{rules, ap, ◌∙◌, arith, ◌≤◌, get_or}
-use Rattle.tree_core.specs.TreeContents.{TreeContents}
+use Rattle.tree_core.proofs.Prelude.{arith, ap, ◌∙◌, get_or, ◌≤◌, rules, TreeContents}
 use Rattle.tree_core.proofs.ReserveSteps.{goes_within, goes_on, same_tree, still_sound, has_room, OnOk-then}
 use Rattle.tree_core.proofs.PlaceLaws.{no_fewer_at_node, no_fewer_below}
 use Rattle.tree_core.proofs.tree.SourceTree.+reserve.Goals as goal

@@ -1,6 +1,4 @@
-use Rattle.std.proofs.Common.{subst, arith}
-use Rattle.tree_defs.specs.SourceTree.{IsWellFormed}
-use Rattle.tree_core.specs.TreeContents.{TreeContents}
+use Rattle.tree_core.proofs.Prelude.{arith, subst, IsWellFormed, TreeContents}
 use Rattle.tree_core.proofs.PopSteps.{node_size}
 use Rattle.tree_core.proofs.tree.SourceTree.size.Goals as goal
 

@@ -1,7 +1,4 @@
-use Rattle.std.proofs.Common.{◌∙◌, ℕ, ap, sym, subst, length, arith}
-use Rattle.tree_core.specs.Shape.{topology}
-use Rattle.tree_graph.specs.Descent.{lists, IsWithin}
-use Rattle.tree_graph.specs.Growth.{HasRoom}
+use Rattle.tree_graph.proofs.Prelude.{arith, ℕ, length, ap, sym, subst, ◌∙◌, topology, lists, IsWithin, HasRoom}
 use Rattle.tree_graph.proofs.MarkLemmas.{length-lists}
 use Rattle.tree_graph.proofs.NodesOnce.{room-root}
 use Rattle.tree_graph.proofs.WholeTree.{shallow-root, grown-whole, sound, all-there, all-once}

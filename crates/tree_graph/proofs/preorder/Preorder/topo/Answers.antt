@@ -1,6 +1,4 @@
-use Rattle.std.proofs.Common.{ap, arith}
-use Rattle.tree_defs.specs.Tree.{depth}
-use Rattle.tree_graph.specs.Preorder.{Numbered}
+use Rattle.tree_graph.proofs.Prelude.{arith, ap, depth, Numbered}
 use Rattle.tree_graph.proofs.WholeTree.{levels-few}
 use Rattle.tree_graph.proofs.preorder.Preorder.topo.Goals as goal
 
