@@ -1,5 +1,5 @@
 -- The outputs of the program over plain queues, followed by the spills of their runs.
-use Rattle.block_replay.proofs.Prelude.{refl, ◌≡◌, [], ℕ, ◌∙◌, arith, sym, List, Some, ap, subst, suc, zero, None, inl, inr, ◌++◌, Option, ◌+◌, append-nil, ◌⊎◌, ◌-◌, Ghosts, no_stop, each-follows, one-answer, Answer, IsGiven, refusal, HoldsLeft, UsesNoFabric, IsOutput, forward_run, laid_run, watchers, IsStop, status_code, forward_status, kind_status, no_form, Form, Pacing, check, direct, forward, link, plan, replay, script, soak, via, Event, Topology, IsBlockOutput, shared}
+use Rattle.block_replay.proofs.Prelude.{refl, ◌≡◌, [], ℕ, ◌∙◌, arith, sym, List, Some, ap, subst, suc, zero, None, inl, inr, ◌++◌, Option, ◌+◌, append-nil, ◌⊎◌, ◌-◌, Ghosts, no_stop, each-follows, one-answer, Answer, IsGiven, refusal, HoldsLeft, UsesNoFabric, IsOutput, forward_run, laid_run, watchers, IsStop, status_code, forward_status, kind_status, no_form, Form, Pacing, check, direct, forward, link, plan, replay, script, soak, via, Event, Topology, IsBlockOutput, shared, Edition}
 use Rattle.outside_core.specs.Written.{Appended, AppendedPrefix}
 use Rattle.outside_core.proofs.WrittenLaws.{appended_in_turn, prefix_in_turn, prefix_of_longer}
 use Rattle.pcap_defs.specs.Contents.{FileContents, no_capture, holds}
@@ -20,6 +20,7 @@ use Rattle.sched_capture.specs.Forwards.{forward_over}
 use Rattle.mapcheck_core.specs.declared.fault.MapFault.{MapFault}
 use Rattle.mapcheck_core.specs.declared.given.Given.{Given}
 use Rattle.tap_core.specs.Lists.{Entry}
+use Rattle.replay_app.specs.Behind.{AreTapsLeft, tap_list}
 use Rattle.replay_app.specs.Policies.{IsPolicy, IsPolicyRefused}
 use Rattle.replay_app.specs.Scripts.{script_pace, ending_status}
 use Rattle.replay_app.specs.Stages.{BehindRoom, BehindScript, BehindTarget, BehindTargetText, BehindWords}
@@ -28,6 +29,7 @@ use Rattle.replay_app.specs.Via.{ForMap, ForTopology, IsMapRefused, IsTried, Unb
 use Rattle.replay_app.specs.declared.status.Status.TheVariants.{Done}
 use Rattle.replay_app.proofs.CaptureLaws.{whole_part}
 use Rattle.replay_app.proofs.Unused.{no_run}
+use Rattle.block_replay.specs.Behind.{AreBlockTapsLeft}
 use Rattle.block_replay.specs.Spills.{counted, run_spills, spills_line, spills_text}
 
 -- ---- a run that ended whole exists
@@ -87,9 +89,9 @@ behind_text : (watching : List Entry) (policy : Resolved) (target : List ℕ) (p
 behind_text watching policy target pacing capture contents a is =
     each-follows kind.Target _ _ _ HasRun (refused kind.Target _) (λ read b is_target. behind_target watching policy read pacing capture contents b) a is
 
-behind_words : (watching : List Entry) (policy target : List ℕ) (pacing : Pacing) (capture : List ℕ) (contents : List ℕ → List ℕ) (a : Answer) → BehindWords watching policy target pacing capture contents a → HasRun a
-behind_words watching policy target pacing capture contents a is =
-    each-follows kind.Policy (IsPolicyRefused (contents policy)) (IsPolicy (contents policy)) (λ judged. BehindTargetText watching judged.policy target pacing capture contents) HasRun (refused kind.Policy _)
+behind_words : (watching : List Entry) (latest : Edition) (policy target : List ℕ) (pacing : Pacing) (capture : List ℕ) (contents : List ℕ → List ℕ) (a : Answer) → BehindWords watching latest policy target pacing capture contents a → HasRun a
+behind_words watching latest policy target pacing capture contents a is =
+    each-follows kind.Policy (IsPolicyRefused latest (contents policy)) (IsPolicy latest (contents policy)) (λ judged. BehindTargetText watching judged.policy target pacing capture contents) HasRun (refused kind.Policy _)
     (λ judged b accepted. behind_text watching judged.policy target pacing capture contents b) a is
 
 unbroken : (names : List (List ℕ)) (broken : Option MapFault) (after : Answer → Type 0) → ((a : Answer) → after a → HasRun a) → (a : Answer) → Unbroken names broken after a → HasRun a
@@ -129,13 +131,13 @@ module _ (c e : List ℕ) (contents : List ℕ → List ℕ) where
         then_topology policy a is = each-follows kind.Tree _ _ _ HasRun (refused kind.Tree _) (λ middle b read. then_map policy middle b) a is
 
 run_there : (form : Form) (contents : List ℕ → List ℕ) (taps : List Entry) → (UsesNoFabric form → ⊥) → (a : Answer) → IsOutput form contents taps a → HasRun a
-run_there (replay p t c pacing) contents taps used a is = behind_words (watchers pacing taps) p t pacing c contents a is
-run_there (check p) contents taps used a is = absurd (used tt)
-run_there (plan p t) contents taps used a is = absurd (used tt)
-run_there (direct p c e) contents taps used a is = absurd (used tt)
+run_there (replay latest p t c pacing) contents taps used a is = behind_words (watchers pacing taps) latest p t pacing c contents a is
+run_there (check latest p) contents taps used a is = absurd (used tt)
+run_there (plan latest p t) contents taps used a is = absurd (used tt)
+run_there (direct latest p c e) contents taps used a is = absurd (used tt)
 run_there (soak load) contents taps used a is = subst HasRun (sym is.is) (record { there = λ e. (_, refl) })
-run_there (via p g m t c e) contents taps used a is =
-    each-follows kind.Policy (IsPolicyRefused (contents p)) (IsPolicy (contents p)) (λ judged. ThenTopology c e contents t m g judged.policy) HasRun (refused kind.Policy _)
+run_there (via latest p g m t c e) contents taps used a is =
+    each-follows kind.Policy (IsPolicyRefused latest (contents p)) (IsPolicy latest (contents p)) (λ judged. ThenTopology c e contents t m g judged.policy) HasRun (refused kind.Policy _)
     (λ judged b accepted. then_topology c e contents t m g judged.policy b) a is
 run_there no_form contents taps used a is = absurd (used tt)
 
@@ -210,6 +212,10 @@ module _ (form : Form) (contents : List ℕ → List ℕ) (taps : List Entry) wh
           subst (λ (x : Answer). AppendedPrefix old new x.text) (sym (is.counted_is ∙ ap counted e)) given;
     })
     counted_part status stop (inr s) text = absurd (no_stop Done s.stop)
+
+  -- ---- the taps
+  pub taps_counted : (status : ℕ) (after : List Entry) → AreTapsLeft form contents status taps after → AreBlockTapsLeft (shared form) contents status taps after
+  taps_counted status after left = λ below a is. left below is.first is.is ∙ ap (λ (x : Answer). tap_list form x.shown taps) (sym is.counted_is)
 
   -- ---- the fabric
   module _ {F : Type 0} (fabrics : Ghosts F) (old new : F) where

@@ -1,5 +1,6 @@
 -- The end of a program that runs nothing.
-use Rattle.block_replay.proofs.Prelude.{refl, ◌≡◌, [], ℕ, arith, ◌∷◌, List, ap, None, inl, inr, Option, ◌⊎◌, Err, IfOk, IsErrOf, Ok, Result, Ghosts, is_stop, no_stop, each-follows, unchanged, Answer, IsGiven, IsTold, HoldsLeft, IsStop, status_code, IsOneOf, IsCalmTold, end_status}
+use Rattle.block_replay.proofs.Prelude.{refl, ◌≡◌, [], ℕ, arith, ◌∷◌, List, ap, None, inl, inr, Option, ◌⊎◌, Err, IfOk, IsErrOf, Ok, Result, Ghosts, is_stop, no_stop, each-follows, unchanged, Answer, IsGiven, IsTold, HoldsLeft, IsStop, status_code, IsOneOf, IsCalmTold, end_status, Edition, ◌∙◌, IsBlockOutput, shared, no_form}
+use Rattle.tap_core.specs.Lists.{Entry}
 use Rattle.outside_core.specs.declared.stop.Stop.{Stop}
 use Rattle.outside_core.specs.declared.stop.Stop.TheVariants.{Source, Sink, Memory}
 use Rattle.report_core.specs.declared.fault.FaultKind.TheVariants as kind
@@ -54,8 +55,11 @@ still fabrics f output status none = record {
   part = λ stop a is. rw (none a is) (unchanged fabrics f);
 }
 
-pub calm_runs_nothing : (policy target : List ℕ) (a : Answer) → IsCalmTold policy target a → a.run ≡ None
-calm_runs_nothing policy target a is =
+pub calm_runs_nothing : (latest : Edition) (policy target : List ℕ) (a : Answer) → IsCalmTold latest policy target a → a.run ≡ None
+calm_runs_nothing latest policy target a is =
     each-follows kind.Policy _ _ _ (λ b. b.run ≡ None) (λ code place h. refl) (λ judged b h k.
     each-follows kind.Target _ _ _ (λ d. d.run ≡ None) (λ code place l. refl) (λ read d l m.
     each-follows kind.Size _ _ _ (λ f. f.run ≡ None) (λ code place n. refl) (λ images f n o. ap (λ (x : Answer). x.run) o) d m) b k) a is
+
+pub no_form_runs_nothing : (contents : List ℕ → List ℕ) (taps : List Entry) (a : Answer) → IsBlockOutput (shared no_form) contents taps a → a.run ≡ None
+no_form_runs_nothing contents taps a is = ap (λ (x : Answer). x.run) is.counted_is ∙ ap (λ (x : Answer). x.run) is.is

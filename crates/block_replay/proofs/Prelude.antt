@@ -15,6 +15,7 @@ pub use Rattle.fabric_core.specs.declared.fabric.Fabric.{Ghosts}
 pub use Rattle.packet_defs.specs.declared.packet.Packet.{Packet}
 pub use Rattle.policy_core.proofs.NumberedAddresses.{address-down, address-up, address-undone, number-undone}
 pub use Rattle.policy_core.specs.Numbering.{address_at}
+pub use Rattle.policy_text_defs.specs.declared.edition.Edition.{Edition}
 pub use Rattle.policy_defs.specs.Accepted.{IsAccepted, IsNodeReady, AreMarksInRange, IsClassReady}
 pub use Rattle.policy_defs.specs.BuiltIn.{AreBuiltIn}
 pub use Rattle.policy_defs.specs.Policy.{Node, node_at, Policy, Marks, no_marks, node_below, Class}
@@ -36,7 +37,7 @@ pub use Rattle.replay_app.specs.Answer.{Answer, IsGiven, refusal, IsTold}
 pub use Rattle.replay_app.specs.Behind.{HoldsLeft, UsesNoFabric}
 pub use Rattle.replay_app.specs.Output.{IsOutput, forward_run, laid_run, watchers}
 pub use Rattle.replay_app.specs.Statuses.{IsStop, status_code, IsOneOf, forward_status, kind_status}
-pub use Rattle.replay_app.specs.Words.{no_form, Form, Pacing, check, direct, form_in, forward, link, plan, replay, script, soak, via}
+pub use Rattle.replay_app.specs.Words.{no_form, Form, Pacing, check, direct, form_up_to, forward, link, plan, replay, script, soak, via}
 pub use Rattle.sched_defs.proofs.Members.{all_mapped, IsIn, all_joined, contains_of, in_of}
 pub use Rattle.sched_defs.proofs.States.{AreStatesInRange, after_pushes-in_range}
 pub use Rattle.sched_defs.proofs.Visits.{IsVisitTo, visits_from-are, IsPart, no_marks_in_range, root_stands}

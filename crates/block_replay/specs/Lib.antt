@@ -5,5 +5,6 @@ pub mod Words
 pub mod Spills
 pub mod Output
 pub mod Behind
+pub mod Ends
 pub mod Calm
 pub mod Laws

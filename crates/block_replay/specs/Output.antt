@@ -4,6 +4,7 @@ use Rattle.std.specs.Prelude.{◌≡◌, refl, ℕ, Bool, true, false, List, [],
 use Rattle.tree_defs.specs.Topology.{topology_of}
 use Rattle.policy_defs.specs.Policy.{Policy}
 use Rattle.policy_rules.specs.Resolved.{Resolved}
+use Rattle.policy_text_defs.specs.declared.edition.Edition.{Edition}
 use Rattle.outside_core.specs.Report.{line_of}
 use Rattle.target_core.specs.declared.target.Target.{Target}
 use Rattle.sched_embedded.specs.Laid.{Laid}
@@ -37,14 +38,14 @@ abbrev pub BehindPolicy : Resolved → List ℕ → Answer → Type 0
 BehindPolicy policy target = ForTarget target (BehindTarget policy)
 
 -- outputs that depend on the texts of a policy and a target
-abbrev pub IsCalmTold : List ℕ → List ℕ → Answer → Type 0
-IsCalmTold policy target = UnderPolicy policy (λ judged. BehindPolicy judged.policy target)
+abbrev pub IsCalmTold : Edition → List ℕ → List ℕ → Answer → Type 0
+IsCalmTold latest policy target = UnderPolicy latest policy (λ judged. BehindPolicy judged.policy target)
 
 -- The output for these arguments, file contents and taps: that of the program over plain queues,
 -- followed by the spills of its run; or whether a policy is calm.
 abbrev pub IsBlockOutput : BlockForm → (List ℕ → List ℕ) → List Entry → Answer → Type 0
 IsBlockOutput (shared form) contents taps a = IsCounted (IsOutput form contents taps) a
-IsBlockOutput (calm p t) contents taps a = IsCalmTold (contents p) (contents t) a
+IsBlockOutput (calm latest p t) contents taps a = IsCalmTold latest (contents p) (contents t) a
 
 calm_line-yes : calm_line true ≡ codes "calm yes\n"
 calm_line-yes = refl

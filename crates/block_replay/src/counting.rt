@@ -1,22 +1,19 @@
 //! The commands that both programs share, with the spills of a run after its text.
-ghost use Rattle.std.specs.Prelude.{◌≡◌, ◌≢◌, ◌≤◌, ◌<◌, ◌^◌, ◌++◌, ◌∷◌, ◌⊎◌, [], vec_len, OnOk, OnErr, IsErrOf, IsFalse, IsTrue};
+ghost use Rattle.std.specs.Prelude.{◌≡◌, ◌≢◌, ◌≤◌, ◌<◌, ◌^◌, ◌++◌, ◌⊎◌, [], vec_len, OnOk, OnErr, IsErrOf, IsFalse, IsTrue};
 ghost use Rattle.outside_core.specs.Faults.{Rose};
 ghost use Rattle.outside_core.specs.Written.{Appended, AppendedPrefix};
-ghost use Rattle.sched_embedded.specs.Fabrics.{IsAsItWas};
 ghost use Rattle.tap_core.specs.Lists.{entries};
-ghost use Rattle.replay_app.specs.Answer.{IsGiven};
-ghost use Rattle.replay_app.specs.Behind.{HoldsLeft, UsesNoFabric, UsesNoTaps};
-ghost use Rattle.replay_app.specs.Statuses.{CanEnd, IsOneOf, IsRefusal};
-ghost use Rattle.replay_app.specs.Words.{AreLent, WhereTold, file_words, form_in, no_form};
-ghost use Rattle.block_replay.specs.Behind.{AreBlockTapsLeft};
-ghost use Rattle.block_replay.specs.Output.{IsBlockOutput};
+ghost use Rattle.replay_app.specs.Behind.{UsesNoFabric};
+ghost use Rattle.replay_app.specs.Words.{AreLent, WhereTold, file_words, form_up_to};
+ghost use Rattle.block_replay.specs.Ends.{IsBlockEndOf, KeepsToBlocks};
 ghost use Rattle.block_replay.specs.Spills.{spills_line};
 ghost use Rattle.block_replay.specs.Words.{shared};
 
 use block_core::BlockFabric;
 use fabric_core::Fabric;
 use outside_core::{Shelf, Sink, Stop};
-use replay_app::{run, stop_status, uses_fabric, write};
+use policy_text::Edition;
+use replay_app::{run_to, stop_status, uses_fabric, write};
 use std::alloc::{AllocError, Global};
 use tap_core::Tap;
 use text_core::put_decimal;
@@ -46,11 +43,11 @@ fn write_spills<K: Sink>(alloc: Global, spills: u128, sink: &mut K) -> Result<()
 }
 
 /// Returns whether a run through the fabric ended whole, from the status and the arguments.
-fn ended_whole(status: u8, words: &[String]) -> bool
-    ensures told { IsTrue result → (status ≡ 0) × (UsesNoFabric (form_in words.now) → ⊥) }
-    ensures untold { IsFalse result → (status ≢ 0) ⊎ UsesNoFabric (form_in words.now) }
+fn ended_whole(status: u8, latest: Edition, words: &[String]) -> bool
+    ensures told { IsTrue result → (status ≡ 0) × (UsesNoFabric (form_up_to latest words.now) → ⊥) }
+    ensures untold { IsFalse result → (status ≢ 0) ⊎ UsesNoFabric (form_up_to latest words.now) }
 {
-    status == 0 && uses_fabric(words)
+    status == 0 && uses_fabric(latest, words)
 }
 
 /// Runs a command as the program over plain queues does, and appends the number of spills if the
@@ -58,44 +55,33 @@ fn ended_whole(status: u8, words: &[String]) -> bool
 /// number of spills rises.
 pub fn run_counted<S: Shelf, K: Sink>(
     alloc: Global,
+    latest: Edition,
     words: &[String],
     shelf: &mut S,
     sink: &mut K,
     fabric: &mut BlockFabric,
     taps: &mut Vec<Box<dyn Tap>>,
 ) -> u8
-    requires lent { AreLent (S.lends shelf.old) (file_words (form_in words.now)) }
+    requires lent { AreLent (S.lends shelf.old) (file_words (form_up_to latest words.now)) }
     requires pushes { fabric.old.pushed < 2 ^ 61 }
     requires pops { fabric.old.popped < 2 ^ 61 }
 
-    ensures answer { WhereTold (S.content shelf.old) (file_words (form_in words.now)) (λ contents.
-        IsGiven (IsBlockOutput (shared (form_in words.now)) contents (entries kind_of state_of taps.old.items)) result
-        (K.written sink.old) (K.written sink.new)) }
-    ensures fabric { WhereTold (S.content shelf.old) (file_words (form_in words.now)) (λ contents.
-        HoldsLeft ⟦<BlockFabric as Fabric>⟧
-        (IsBlockOutput (shared (form_in words.now)) contents (entries kind_of state_of taps.old.items)) result
-        fabric.old fabric.new) }
-    ensures taps { WhereTold (S.content shelf.old) (file_words (form_in words.now)) (λ contents.
-        AreBlockTapsLeft (shared (form_in words.now)) contents result
+    ensures told { WhereTold (S.content shelf.old) (file_words (form_up_to latest words.now))
+        (λ contents.
+        IsBlockEndOf ⟦<BlockFabric as Fabric>⟧ (shared (form_up_to latest words.now)) contents result
+        (K.written sink.old) (K.written sink.new) fabric.old fabric.new
         (entries kind_of state_of taps.old.items) (entries kind_of state_of taps.new.items)) }
-    ensures statuses { CanEnd (form_in words.now) result }
-    ensures no_form { result ≡ 2 → form_in words.now ≡ no_form }
-    ensures told_so { form_in words.now ≡ no_form → IsOneOf (2 ∷ 9 ∷ 10 ∷ []) result }
-    ensures refused { IsRefusal result → IsAsItWas ⟦<BlockFabric as Fabric>⟧ fabric.old fabric.new }
-    ensures untouched { UsesNoFabric (form_in words.now) → IsAsItWas ⟦<BlockFabric as Fabric>⟧
-        fabric.old fabric.new }
-    ensures unwatched { IsRefusal result
-        → entries kind_of state_of taps.new.items ≡ entries kind_of state_of taps.old.items }
-    ensures unshown { UsesNoTaps (form_in words.now)
-        → entries kind_of state_of taps.new.items ≡ entries kind_of state_of taps.old.items }
+    ensures always { KeepsToBlocks ⟦<BlockFabric as Fabric>⟧ (shared (form_up_to latest words.now))
+        result fabric.old fabric.new
+        (entries kind_of state_of taps.old.items) (entries kind_of state_of taps.new.items) }
     ensures fewer { vec_len taps.new ≤ vec_len taps.old }
     ensures shelf_cause { result ≡ 8 → Rose (S.faults shelf.old) (S.faults shelf.new) }
-    ensures no_files { file_words (form_in words.now) ≡ [] → result ≢ 8 }
+    ensures no_files { file_words (form_up_to latest words.now) ≡ [] → result ≢ 8 }
     ensures sink_cause { result ≡ 9 → Rose (K.faults sink.old) (K.faults sink.new) }
 {
     let before = fabric.spills();
-    let status = run(alloc, words, shelf, sink, fabric, taps);
-    if !ended_whole(status, words) {
+    let status = run_to(alloc, latest, words, shelf, sink, fabric, taps);
+    if !ended_whole(status, latest, words) {
         return status;
     }
     match write_spills(alloc, fabric.spills().saturating_sub(before), sink) {

@@ -13,5 +13,5 @@ mod words;
 
 pub use calm_laws::{calm_at_each_node, calm_policies_never_spill, calm_runs_never_spill};
 pub use calmness::calm;
-pub use command::block_run;
+pub use command::{block_run, block_run_to};
 pub use laws::{block_words_have_an_answer, block_words_have_one_answer};

@@ -91,13 +91,13 @@ pub fn tell_files<S: Shelf, K: Sink>(
 
     ensures answer { WhereTold (S.content shelf.old) (files.now.policy.now ∷ files.now.target.now ∷
         []) (λ contents.
-        IsTold (IsCalmTold (contents files.now.policy.now) (contents files.now.target.now)) result
+        IsTold (IsCalmTold files.now.latest (contents files.now.policy.now) (contents files.now.target.now)) result
         (K.written sink.old) (K.written sink.new)) }
     ensures statuses { IfOk result (λ s. IsOneOf (3 ∷ 4 ∷ 5 ∷ 0 ∷ []) (status_code s)) }
     ensures causes { HasCauses result (S.faults shelf.old) (S.faults shelf.new) (K.faults sink.old)
         (K.faults sink.new) }
 {
-    match read_policy(alloc, shelf, files.policy)? {
+    match read_policy(alloc, files.latest, shelf, files.policy)? {
         Read::Accepted(judged) => tell_target(alloc, &judged.policy, files.target, shelf, sink),
         Read::Refused(refusal) => refuse(alloc, sink, FaultKind::Policy, refusal),
     }

@@ -1,11 +1,15 @@
 //! The arguments of the commands.
-ghost use Rattle.std.specs.Prelude.{◌≡◌};
-ghost use Rattle.block_replay.specs.Words.{block_form_in, task_form};
-ghost use Rattle.replay_app.specs.Words.{texts};
+ghost use Rattle.std.specs.Prelude.{◌≡◌, MatchOption};
+ghost use Rattle.block_replay.specs.Words.{block_form_up_to, calm_by, calm_form, shared, task_form};
+ghost use Rattle.replay_app.specs.Words.{no_form, texts};
+
+use policy_text::Edition;
 
 /// The file names of `calm`.
 #[derive(Clone, Copy, Debug)]
 pub struct CalmFiles<'a> {
+    /// The policy is read up to this edition.
+    pub latest: Edition,
     pub policy: &'a str,
     pub target: &'a str,
 }
@@ -21,18 +25,30 @@ pub enum Task<'a> {
     NoForm,
 }
 
-/// Returns the task that the arguments give.
-pub fn task_of(words: &[String]) -> Task<'_>
-    ensures form { block_form_in words.now ≡ task_form (texts words.now) result }
+/// Returns the files of `calm`, if exactly a policy and a target follow it.
+fn calm_by(latest: Edition, names: &[String]) -> Option<CalmFiles<'_>>
+    ensures { MatchOption result (calm_by latest (texts names.now) ≡ shared no_form) (λ files.
+        calm_by latest (texts names.now) ≡ calm_form files) }
+{
+    match names {
+        [policy, target] => Some(CalmFiles {
+            latest,
+            policy: policy.as_str(),
+            target: target.as_str(),
+        }),
+        _ => None,
+    }
+}
+
+/// Returns the task that the arguments give, if policies are read up to the edition `latest`.
+pub fn task_of(latest: Edition, words: &[String]) -> Task<'_>
+    ensures form { block_form_up_to latest words.now ≡ task_form latest (texts words.now) result }
 {
     match words {
         [command, ..] if matches!(command.as_str(), "via" | "forward") => Task::NoForm,
-        [command, names @ ..] if command.as_str() == "calm" => match names {
-            [policy, target] => Task::Calm(CalmFiles {
-                policy: policy.as_str(),
-                target: target.as_str(),
-            }),
-            _ => Task::NoForm,
+        [command, names @ ..] if command.as_str() == "calm" => match calm_by(latest, names) {
+            Some(files) => Task::Calm(files),
+            None => Task::NoForm,
         },
         [_, ..] => Task::Shared,
         [] => Task::NoForm,

@@ -73,7 +73,7 @@ fn tree_rule_cause(code: u64) -> Cause {
 fn rule_cause(code: u64) -> Cause {
     match code {
         1 => made(
-            "expected `policy 1` or `policy 2` first and once, and the lines of a transaction right after its line in their order, found this line",
+            "expected `policy 1`, `policy 2` or `policy 3` first and once, and the lines of a transaction right after its line in their order, found this line",
             "put `policy 1` first, and move the line to the part for its kind",
         ),
         2 => made(

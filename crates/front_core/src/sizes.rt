@@ -3,7 +3,7 @@ ghost use Rattle.embed_defs.specs.Target.{IsInRange};
 
 use embed_core::{Target, least_height};
 use policy_core::{Policy, resolve};
-use policy_text::parse;
+use policy_text::{Edition, parse_to};
 use std::alloc::{AllocError, Global};
 use target_core::read_target;
 
@@ -65,7 +65,7 @@ fn needs_text(alloc: Global, policy: &Policy, target: &Target) -> Result<String,
 /// Returns what the policy of a text needs and what the target of a text has, as lines of a message.
 /// Returns nothing if one of them isn't accepted. Fails if out of memory.
 pub fn size_detail(alloc: Global, policy: &[u8], target: &[u8]) -> Result<String, AllocError> {
-    let Ok(lines) = parse(alloc, policy) else {
+    let Ok(lines) = parse_to(alloc, policy, Edition::Third) else {
         return Ok(String::new(alloc));
     };
     match (resolve(alloc, &lines), read_target(alloc, target)) {

@@ -4,7 +4,7 @@ use report_core::FaultKind;
 /// Returns the form of a policy's statement with this first word.
 fn policy_form(word: &[u8]) -> Option<&'static str> {
     Some(match word {
-        b"policy" => "policy 1, or policy 2",
+        b"policy" => "policy 1, policy 2 or policy 3",
         b"transaction" => "transaction NAME",
         b"keep" => "keep NAME LOW..HIGH = FIRST",
         b"each" => "each NAME LOW..HIGH = FIRST",

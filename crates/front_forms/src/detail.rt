@@ -96,6 +96,35 @@ fn depth_detail(alloc: Global, error: Error<'_>) -> Result<Option<Detail>, Alloc
     }))
 }
 
+/// Returns that `policy 3` is read only as the first statement, if a line that has a form is it.
+fn version_detail(alloc: Global, error: Error<'_>) -> Result<Option<Detail>, AllocError> {
+    let Some(statement) = statement_at(alloc, error.text, error.line)? else {
+        return Ok(None);
+    };
+    let column = blanks(statement);
+    if !part(statement, column, statement.len()).starts_with(b"policy") {
+        return Ok(None);
+    }
+    let mut message = Vec::new(alloc);
+    say(
+        &mut message,
+        "expected `policy 3` before all other statements, found it after one",
+    )?;
+    Ok(Some(Detail {
+        line: error.line,
+        column,
+        message,
+    }))
+}
+
+/// Returns why a line that has a form doesn't parse.
+fn form_detail(alloc: Global, error: Error<'_>) -> Result<Option<Detail>, AllocError> {
+    match version_detail(alloc, error)? {
+        Some(detail) => Ok(Some(detail)),
+        None => depth_detail(alloc, error),
+    }
+}
+
 /// Returns the index of the first byte after the first `=` and blanks, or 0.
 pub fn value_column(line: &[u8]) -> usize {
     let Some(mark) = line.iter().position(|byte| *byte == b'=') else {
@@ -139,7 +168,7 @@ fn policy_detail(alloc: Global, error: Error<'_>) -> Result<Option<Detail>, Allo
         22 => byte_detail(alloc, error),
         23 => match break_detail(alloc, error, Place::Statement)? {
             Some(detail) => Ok(Some(detail)),
-            None => depth_detail(alloc, error),
+            None => form_detail(alloc, error),
         },
         _ => {
             let entries = entries(alloc, error.text)?;

@@ -56,7 +56,7 @@ pub static ROWS: [(Place, Want, Place); 134] = [
         Want::Start("node", "a statement"),
         Place::Node,
     ),
-    (Place::Version, Want::Number(1, 2), Place::Last),
+    (Place::Version, Want::Number(1, 3), Place::Last),
     (
         Place::Transaction,
         Want::Name("the name of a transaction"),

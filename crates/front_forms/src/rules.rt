@@ -83,11 +83,16 @@ fn say_order(
     entry: &Entry,
 ) -> Result<(), AllocError> {
     let Some(last) = last else {
-        say(into, "expected `policy 1` or `policy 2` first, found ")?;
+        say(
+            into,
+            "expected `policy 1`, `policy 2` or `policy 3` first, found ",
+        )?;
         return say_quoted(into, entry.bytes(text, 0));
     };
     let expected = match entry.bytes(text, 0) {
-        b"policy" => "expected `policy 1` or `policy 2` once and first, found a second one",
+        b"policy" => {
+            "expected `policy 1`, `policy 2` or `policy 3` once and first, found a second one"
+        }
         b"keep" | b"each" => "expected a variable after `transaction`, `keep` or `each`, found it",
         b"push" => "expected `push` in a transaction and before each `pop`, found it",
         _ => "expected `pop` in a transaction, found it",

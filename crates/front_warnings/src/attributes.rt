@@ -160,7 +160,7 @@ fn warn_of_statement(
 ) -> Result<(), NoMemory> {
     let line = entry.0;
     match &entry.1 {
-        Statement::Class(name, attrs, _) => {
+        Statement::Class(name, attrs, _) | Statement::Filter(name, attrs, _) => {
             let (name, attrs) = (name.as_str(), *attrs);
             let written = Written { line, name, attrs };
             warn_of(alloc, notes, &written, tree.leaf_of(name), readers)

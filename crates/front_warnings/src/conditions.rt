@@ -1,5 +1,6 @@
-//! The packets that meet all conditions of a class, as one range for each header field.
-use policy_text_defs::{Condition, FieldName};
+//! The packets that meet all conditions of a class or all tests of an alternative, as one range for
+//! each header field.
+use policy_text_defs::{Condition, FieldName, Prefix, Probe, Range, Test, TestField};
 
 /// The number of header fields that conditions limit.
 const COUNT: usize = 9;
@@ -18,11 +19,13 @@ pub struct Limits {
     high: u32,
 }
 
-/// The ranges that a packet of a class has its fields in. A field without a range can have any
-/// value, or be absent.
+/// The ranges that a packet has its fields in. A field without a range can have any value, or be
+/// absent.
 #[derive(Drop)]
 pub struct Ranges {
     fields: [Option<Limits>; COUNT],
+    /// Whether each packet in all ranges meets the conditions, or passes the tests.
+    exact: bool,
 }
 
 /// Returns the index of a field.
@@ -80,13 +83,75 @@ fn is_within(later: Option<Limits>, earlier: Option<Limits>) -> bool {
 impl Ranges {
     /// Returns the ranges that the conditions of a class give together.
     pub fn of(conditions: &[Condition]) -> Ranges {
-        let mut ranges = Ranges {
-            fields: [None; COUNT],
-        };
+        let mut ranges = Ranges::all();
         for condition in conditions {
             ranges.narrow(*condition);
         }
         ranges
+    }
+
+    /// Returns the ranges that the tests of an alternative give together.
+    pub fn of_tests(tests: &[Test]) -> Ranges {
+        let mut ranges = Ranges::all();
+        for test in tests {
+            ranges.narrow_by_test(test);
+        }
+        ranges
+    }
+
+    /// Returns ranges that each packet is in.
+    pub fn all() -> Ranges {
+        Ranges {
+            fields: [None; COUNT],
+            exact: true,
+        }
+    }
+
+    /// Returns ranges that each packet is in, and that don't say which packets meet the conditions.
+    pub fn unknown() -> Ranges {
+        Ranges {
+            fields: [None; COUNT],
+            exact: false,
+        }
+    }
+
+    /// Narrows the ranges by a test. Negated tests, flags, and fields that have no range here leave
+    /// them as they are, and inexact.
+    fn narrow_by_test(&mut self, test: &Test) {
+        if test.negated {
+            self.exact = false;
+            return;
+        }
+        match &test.probe {
+            Probe::Among(TestField::Named(field), ranges) => {
+                self.limit_to(place_of(*field), ranges.as_slice());
+            }
+            Probe::Source(Prefix::V4(address, bits)) => {
+                self.limit_address(SOURCE, *address, *bits);
+            }
+            Probe::Dest(Prefix::V4(address, bits)) => self.limit_address(DEST, *address, *bits),
+            Probe::Source(Prefix::V6(_, _)) | Probe::Dest(Prefix::V6(_, _)) => {
+                self.limit(VERSION, 6, 6);
+                self.exact = false;
+            }
+            Probe::Ipv4 => self.limit(VERSION, 4, 4),
+            Probe::Ipv6 => self.limit(VERSION, 6, 6),
+            _ => self.exact = false,
+        }
+    }
+
+    /// Narrows the range of a field to the values from the least to the greatest of some ranges.
+    fn limit_to(&mut self, place: usize, ranges: &[Range]) {
+        let mut low = u32::MAX;
+        let mut high = 0;
+        for range in ranges {
+            low = low.min(range.low);
+            high = high.max(range.high);
+        }
+        self.limit(place, low, high);
+        if ranges.len() != 1 {
+            self.exact = false;
+        }
     }
 
     /// Narrows the range of a field.
@@ -122,8 +187,12 @@ impl Ranges {
         })
     }
 
-    /// Returns whether each packet that is in these ranges is in those of `earlier` too.
+    /// Returns whether each packet that is in these ranges meets the conditions of `earlier`, as far
+    /// as its ranges tell.
     pub fn are_within(&self, earlier: &Ranges) -> bool {
+        if !earlier.exact {
+            return false;
+        }
         for place in 0..COUNT {
             if !is_within(self.fields[place], earlier.fields[place]) {
                 return false;

@@ -45,6 +45,8 @@ impl Tally {
 pub struct Counts<'a> {
     classifier: Classifier<'a>,
     packet: Packet,
+    /// The version of the policy.
+    pub version: u32,
     /// The packets of each class.
     pub classes: Vec<u64>,
     /// All packets.
@@ -74,6 +76,7 @@ impl<'a> Counts<'a> {
         Ok(Counts {
             classifier: Classifier::new(alloc, policy)?,
             packet: BLANK,
+            version: policy.version(),
             classes: vec![in alloc; 0; policy.classes().len()]?,
             packets: 0,
             unread: Tally::none(),
@@ -98,7 +101,7 @@ impl<'a> Counts<'a> {
 
     /// Counts the packet's link type.
     fn add_link(&mut self, link: u16) {
-        if !has_fields(link) {
+        if !has_fields(self.version, link) {
             if self.unread.count == 0 {
                 self.unread_link = link;
             }

@@ -1,7 +1,7 @@
 //! The divisor of a policy's line that can be 0.
 use policy_core::resolve;
 use policy_rules::PolicyFault;
-use policy_text::{Statement, parse};
+use policy_text::{Edition, Statement, parse_to};
 use std::alloc::{AllocError, Global};
 use text_core::{Line, Token, TokenFault, lines, tokens};
 
@@ -64,10 +64,19 @@ fn first_operand(line: &[u8], tokens: &[Token]) -> Option<Divisor> {
     None
 }
 
-/// Returns the beginning of a policy with a transaction without variables.
-fn empty_transaction(alloc: Global) -> Result<Vec<u8>, AllocError> {
+/// Returns the version that the first statement of a policy gives.
+fn version_of(statements: &[(u32, Statement)]) -> u32 {
+    match statements {
+        [(_, Statement::Version(version)), ..] => *version,
+        _ => 1,
+    }
+}
+
+/// Returns the beginning of a policy of this version with a transaction without variables.
+fn empty_transaction(alloc: Global, version: u32) -> Result<Vec<u8>, AllocError> {
+    let line = format!(in alloc; "policy {version}\ntransaction t\n")?;
     let mut text = Vec::new(alloc);
-    text.extend_from_slice(b"policy 1\ntransaction t\n")?;
+    text.extend_from_slice(line.as_bytes())?;
     Ok(text)
 }
 
@@ -80,11 +89,14 @@ fn variables_before(
     statements: &[(u32, Statement)],
     line: u64,
 ) -> Result<Vec<u8>, AllocError> {
-    let mut found = empty_transaction(alloc)?;
+    let version = version_of(statements);
+    let mut found = empty_transaction(alloc, version)?;
     for (number, statement) in statements {
         let number = u64::from(*number);
         match statement {
-            Statement::Transaction(_) if number < line => found = empty_transaction(alloc)?,
+            Statement::Transaction(_) if number < line => {
+                found = empty_transaction(alloc, version)?;
+            }
             Statement::Keep(..) | Statement::Each(..) if number < line => {
                 found.extend_from_slice(line_at(text, lines, number))?;
                 found.push(b'\n')?;
@@ -102,7 +114,7 @@ fn can_be_zero(alloc: Global, beginning: &[u8], divisor: &[u8]) -> Result<bool, 
     text.extend_from_slice(beginning)?;
     text.extend_from_slice(b"push rank = 1 / ")?;
     text.extend_from_slice(divisor)?;
-    let Ok(lines) = parse(alloc, &text) else {
+    let Ok(lines) = parse_to(alloc, &text, Edition::Third) else {
         return Ok(false);
     };
     match resolve(alloc, &lines) {
@@ -163,7 +175,7 @@ fn zero_in(alloc: Global, beginning: &[u8], line: &[u8]) -> Result<Option<Diviso
 /// counted from 1, of a policy's text. Returns none if there is no such divisor, or the line is too
 /// long to find it soon. Fails if out of memory.
 pub fn divisor_column(alloc: Global, text: &[u8], line: u64) -> Result<Option<usize>, AllocError> {
-    let Ok(statements) = parse(alloc, text) else {
+    let Ok(statements) = parse_to(alloc, text, Edition::Third) else {
         return Ok(None);
     };
     let lines = lines(alloc, text)?;

@@ -1,6 +1,6 @@
 //! Warnings about a capture.
 use crate::counts::Counts;
-use crate::links::link_name;
+use crate::links::{link_name, links_read};
 use crate::notes::Notes;
 use crate::reach::{Declared, classes_of, is_reached};
 use policy_text::Lines;
@@ -20,6 +20,7 @@ fn is_flowless(using: &str) -> bool {
 fn needs_fields(entries: &[(u32, Statement)]) -> bool {
     entries.iter().any(|entry| match &entry.1 {
         Statement::Class(_, _, conditions) => !conditions.is_empty(),
+        Statement::Filter(_, _, alternatives) => !alternatives.is_empty(),
         Statement::Leaf(_, using, _, _, _) => !is_flowless(using.as_str()),
         _ => false,
     })
@@ -40,8 +41,9 @@ fn warn_of_links(
         counts.unread_link,
         link_name(counts.unread_link),
     );
+    let read = links_read(counts.version, link);
     let what = format!(in alloc;
-        "{count} of {all} packets have a link type without header fields, the first is packet {first} with {link} ({name}); only Ethernet (1) and raw IP (101) are read"
+        "{count} of {all} packets have a link type without header fields, the first is packet {first} with {link} ({name}); {read}"
     )?;
     notes.add(&what)
 }

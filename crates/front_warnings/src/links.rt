@@ -5,9 +5,36 @@ const ETHERNET: u16 = 1;
 
 const RAW: u16 = 101;
 
-/// Returns whether packets with this link type have header fields.
-pub(crate) fn has_fields(link: u16) -> bool {
-    link == ETHERNET || link == RAW
+/// The version of policies that reads more link types.
+const LINKS_VERSION: u32 = 3;
+
+/// Returns whether packets with this link type have header fields under a policy of version 3.
+fn has_known_fields(link: u16) -> bool {
+    matches!(
+        link,
+        ETHERNET | RAW | 0 | 12 | 14 | 108 | 113 | 228 | 229 | 276
+    )
+}
+
+/// Returns whether packets with this link type have header fields under a policy of this version.
+pub(crate) fn has_fields(version: u32, link: u16) -> bool {
+    if version < LINKS_VERSION {
+        link == ETHERNET || link == RAW
+    } else {
+        has_known_fields(link)
+    }
+}
+
+/// Returns which link types a policy of this version reads, for a message on one that it doesn't
+/// read.
+pub(crate) fn links_read(version: u32, link: u16) -> &'static str {
+    if LINKS_VERSION <= version {
+        "only Ethernet, IP, loopback and Linux cooked captures are read"
+    } else if has_known_fields(link) {
+        "only Ethernet (1) and raw IP (101) are read; a policy of version 3 reads this one too"
+    } else {
+        "only Ethernet (1) and raw IP (101) are read"
+    }
 }
 
 /// Returns the name of a link type, for a message.

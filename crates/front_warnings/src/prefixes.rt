@@ -1,7 +1,8 @@
 //! Prefixes with host bits set.
 use crate::conditions::host_mask;
 use crate::notes::Notes;
-use policy_text_defs::{Condition, Statement};
+use list_core::List;
+use policy_text_defs::{Condition, Prefix, Probe, Statement, Test};
 use std::alloc::{AllocError, Global};
 
 /// Returns the text of an IPv4 prefix. Fails if out of memory.
@@ -45,15 +46,52 @@ fn warn_of_conditions(
     Ok(())
 }
 
-/// Adds a warning for each prefix with host bits set. Fails if out of memory.
+/// Adds a warning for each IPv4 prefix of tests with host bits set. Fails if out of memory.
+fn warn_of_tests(
+    alloc: Global,
+    notes: &mut Notes<'_>,
+    line: u32,
+    tests: &[Test],
+) -> Result<(), AllocError> {
+    for test in tests {
+        match &test.probe {
+            Probe::Source(Prefix::V4(address, bits)) | Probe::Dest(Prefix::V4(address, bits)) => {
+                warn_of_prefix(alloc, notes, line, *address, *bits)?;
+            }
+            _ => {}
+        }
+    }
+    Ok(())
+}
+
+/// Adds a warning for each IPv4 prefix of a class with host bits set. Fails if out of memory.
+fn warn_of_alternatives(
+    alloc: Global,
+    notes: &mut Notes<'_>,
+    line: u32,
+    alternatives: &[List<Test>],
+) -> Result<(), AllocError> {
+    for tests in alternatives {
+        warn_of_tests(alloc, notes, line, tests.as_slice())?;
+    }
+    Ok(())
+}
+
+/// Adds a warning for each IPv4 prefix with host bits set. Fails if out of memory.
 pub fn warn_of_prefixes(
     alloc: Global,
     notes: &mut Notes<'_>,
     entries: &[(u32, Statement)],
 ) -> Result<(), AllocError> {
     for entry in entries {
-        if let (line, Statement::Class(_, _, conditions)) = entry {
-            warn_of_conditions(alloc, notes, *line, conditions.as_slice())?;
+        match entry {
+            (line, Statement::Class(_, _, conditions)) => {
+                warn_of_conditions(alloc, notes, *line, conditions.as_slice())?;
+            }
+            (line, Statement::Filter(_, _, alternatives)) => {
+                warn_of_alternatives(alloc, notes, *line, alternatives.as_slice())?;
+            }
+            _ => {}
         }
     }
     Ok(())

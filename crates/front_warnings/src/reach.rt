@@ -1,26 +1,66 @@
 //! Classes that no packet can reach.
 use crate::conditions::Ranges;
 use crate::notes::Notes;
-use policy_text_defs::{Condition, Statement};
+use list_core::List;
+use policy_text_defs::{Condition, Statement, Test};
 use std::alloc::{AllocError, Global};
 
-/// A class: the line that declares it, its name and its ranges.
+/// A class: the line that declares it, its name and the ranges of its alternatives.
 #[derive(Drop)]
 pub struct Declared<'a> {
     pub line: u32,
     pub name: &'a str,
-    pub ranges: Ranges,
+    pub alternatives: Vec<Ranges>,
 }
 
 /// The most classes of a policy.
 const MOST_CLASSES: usize = 256;
 
-/// Returns the class that a statement declares.
-fn class_of<'a>(line: u32, name: &'a str, conditions: &[Condition]) -> Declared<'a> {
-    Declared {
-        line,
-        name,
-        ranges: Ranges::of(conditions),
+/// The most alternatives of a class that are compared with those of other classes.
+const MOST_ALTERNATIVES: usize = 16;
+
+/// Returns the ranges of a class with conditions, as one alternative. Fails if out of memory.
+fn one_alternative(alloc: Global, conditions: &[Condition]) -> Result<Vec<Ranges>, AllocError> {
+    let mut alternatives = Vec::new(alloc);
+    alternatives.push(Ranges::of(conditions))?;
+    Ok(alternatives)
+}
+
+/// Returns the ranges of alternatives, or ranges that tell nothing if there are too many to compare
+/// soon. Fails if out of memory.
+fn alternatives_of(alloc: Global, given: &[List<Test>]) -> Result<Vec<Ranges>, AllocError> {
+    let mut alternatives = Vec::new(alloc);
+    if given.len() > MOST_ALTERNATIVES {
+        alternatives.push(Ranges::unknown())?;
+        return Ok(alternatives);
+    }
+    for tests in given {
+        alternatives.push(Ranges::of_tests(tests.as_slice()))?;
+    }
+    if given.is_empty() {
+        alternatives.push(Ranges::all())?;
+    }
+    Ok(alternatives)
+}
+
+/// Returns the class that a statement declares, if it declares one. Fails if out of memory.
+fn class_of<'a>(
+    alloc: Global,
+    entry: &'a (u32, Statement),
+) -> Result<Option<Declared<'a>>, AllocError> {
+    let line = entry.0;
+    match &entry.1 {
+        Statement::Class(name, _, conditions) => Ok(Some(Declared {
+            line,
+            name: name.as_str(),
+            alternatives: one_alternative(alloc, conditions.as_slice())?,
+        })),
+        Statement::Filter(name, _, given) => Ok(Some(Declared {
+            line,
+            name: name.as_str(),
+            alternatives: alternatives_of(alloc, given.as_slice())?,
+        })),
+        _ => Ok(None),
     }
 }
 
@@ -31,27 +71,46 @@ pub fn classes_of<'a>(
 ) -> Result<Vec<Declared<'a>>, AllocError> {
     let mut classes = Vec::new(alloc);
     for entry in entries {
-        if let (line, Statement::Class(name, _, conditions)) = entry {
-            if classes.len() < MOST_CLASSES {
-                classes.push(class_of(*line, name.as_str(), conditions.as_slice()))?;
+        if classes.len() < MOST_CLASSES {
+            if let Some(class) = class_of(alloc, entry)? {
+                classes.push(class)?;
             }
         }
     }
     Ok(classes)
 }
 
+/// Returns whether no packet is in a class.
+fn is_empty(class: &Declared<'_>) -> bool {
+    class.alternatives.iter().all(|ranges| ranges.is_empty())
+}
+
+/// Returns whether an earlier class takes all packets in some ranges.
+fn takes_ranges(other: &Declared<'_>, ranges: &Ranges) -> bool {
+    other
+        .alternatives
+        .iter()
+        .any(|earlier| ranges.are_within(earlier))
+}
+
+/// Returns whether an earlier class takes all packets of a class.
+fn takes(other: &Declared<'_>, class: &Declared<'_>) -> bool {
+    class
+        .alternatives
+        .iter()
+        .all(|ranges| takes_ranges(other, ranges))
+}
+
 /// Returns the first of some earlier classes that takes all packets of a class.
 fn taker<'a, 'b>(class: &Declared<'a>, earlier: &'b [Declared<'a>]) -> Option<&'b Declared<'a>> {
-    earlier
-        .iter()
-        .find(|other| class.ranges.are_within(&other.ranges))
+    earlier.iter().find(|other| takes(other, class))
 }
 
 /// Returns whether a packet can be in the class with this index.
 pub fn is_reached(classes: &[Declared<'_>], place: usize) -> bool {
     let (earlier, rest) = classes.split_at(place.min(classes.len()));
     match rest {
-        [class, ..] => !class.ranges.is_empty() && taker(class, earlier).is_none(),
+        [class, ..] => !is_empty(class) && taker(class, earlier).is_none(),
         [] => false,
     }
 }
@@ -64,7 +123,7 @@ fn warn_of(
     earlier: &[Declared<'_>],
 ) -> Result<(), AllocError> {
     let name = class.name;
-    if class.ranges.is_empty() {
+    if is_empty(class) {
         let what = format!(in alloc;
             "no packet can be in class {name}: its conditions exclude each other"
         )?;

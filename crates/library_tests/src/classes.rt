@@ -1,5 +1,5 @@
 //! Test of the classification of single packets.
-use packet_core::{Fields, classify};
+use packet_core::{Classifier, Fields, Header, no_extra};
 use policy_core::Policy;
 use std::test::Fail;
 
@@ -26,8 +26,13 @@ fn a_packet_has_the_first_class_that_it_meets(rt: HostRuntime) -> Result<(), Fai
         target: Some(0x0a09_0101),
         ..NO_FIELDS
     };
+    let classifier = Classifier::new(rt.alloc(), &office)?;
     for (fields, class) in [(voice, 0), (backup, 6), (NO_FIELDS, 7)] {
-        assert_eq!(rt; classify(&office, &fields, 100), class);
+        let header = Header {
+            fields,
+            extra: no_extra(),
+        };
+        assert_eq!(rt; classifier.class_of(&header, 100), class);
     }
     Ok(())
 }

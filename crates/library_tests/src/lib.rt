@@ -7,6 +7,8 @@ mod block;
 #[cfg(test)]
 mod capture;
 mod classes;
+#[cfg(test)]
+mod editions;
 mod embed;
 #[cfg(test)]
 mod fabrics;
@@ -14,6 +16,8 @@ mod fabrics;
 mod faults;
 #[cfg(test)]
 mod files;
+#[cfg(test)]
+mod filters;
 #[cfg(test)]
 mod json;
 #[cfg(test)]

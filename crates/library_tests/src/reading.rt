@@ -35,10 +35,10 @@ fn read_on<R: CaptureReader>(
     let mut number = 0;
     let mut byte = 0;
     for _ in 0..4 {
-        match reader.next(shelf, into) {
+        match reader.next_in_place(shelf, into) {
             Ok(Some(packet)) => {
                 number = packet.frame.number;
-                byte = into.last().copied().unwrap_or(0);
+                byte = reader.captured(into).last().copied().unwrap_or(0);
             }
             Ok(None) => return (number, byte, Ok(())),
             Err(fault) => return (number, byte, Err(fault)),

@@ -85,6 +85,8 @@ read-whole (sign m.Less ∷ gs) ts outer t b c e = absurd cc
 read-whole (sign m.LessEq ∷ gs) ts outer t b c e = absurd cc
 read-whole (sign m.More ∷ gs) ts outer t b c e = absurd cc
 read-whole (sign m.MoreEq ∷ gs) ts outer t b c e = absurd cc
+read-whole (sign m.OpenBrace ∷ gs) ts outer t b c e = absurd cc
+read-whole (sign m.CloseBrace ∷ gs) ts outer t b c e = absurd cc
 
 -- glyphs that read as a tree are its written form
 pub read-is_written : (gs : List Glyph) (t : Topology) → read_on gs [] [] ≡ Some t → (gs ≡ written t) × IsBranched t

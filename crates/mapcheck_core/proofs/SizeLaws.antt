@@ -139,6 +139,8 @@ counts (sign m.Less ∷ gs) ts outer one = refl
 counts (sign m.LessEq ∷ gs) ts outer one = refl
 counts (sign m.More ∷ gs) ts outer one = refl
 counts (sign m.MoreEq ∷ gs) ts outer one = refl
+counts (sign m.OpenBrace ∷ gs) ts outer one = refl
+counts (sign m.CloseBrace ∷ gs) ts outer one = refl
 
 -- the measured size is that of the tree that is read, and there is none if no tree is read
 pub measured-is : (gs : List Glyph) → measured gs ≡ option_map size_of (read_on gs [] [])

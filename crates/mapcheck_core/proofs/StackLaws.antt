@@ -51,6 +51,8 @@ leaf_step (sign m.Less) gs ts outer t no_open no_close e = absurd cc
 leaf_step (sign m.LessEq) gs ts outer t no_open no_close e = absurd cc
 leaf_step (sign m.More) gs ts outer t no_open no_close e = absurd cc
 leaf_step (sign m.MoreEq) gs ts outer t no_open no_close e = absurd cc
+leaf_step (sign m.OpenBrace) gs ts outer t no_open no_close e = absurd cc
+leaf_step (sign m.CloseBrace) gs ts outer t no_open no_close e = absurd cc
 
 -- the glyph at an index, followed by the remaining ones
 glyphs_from : (items : List Item) (i : ℕ) (d : Item) → i < length items → glyphs_of (drop i items) ≡ glyph_of (get_or items i d) ∷ glyphs_of (drop (i + 1) items)

@@ -1,8 +1,9 @@
-//! Numbers in captured bytes, in network byte order (big-endian).
+//! Numbers in captured bytes. They are in network byte order (big-endian) unless a name says
+//! otherwise.
 ghost use Rattle.std.specs.Prelude.{◌≡◌, ◌≤◌, ◌<◌, ◌+◌, ◌^◌, length};
-ghost use Rattle.packet_defs.specs.Bytes.{is_captured, number_at};
+ghost use Rattle.packet_defs.specs.Bytes.{is_captured, number_at, little_number_at};
 
-use byteorder::{BigEndian, ByteOrder};
+use byteorder::{BigEndian, ByteOrder, LittleEndian};
 
 /// Returns whether `len` bytes are captured at position `at`.
 pub fn is_captured(bytes: &[u8], len: usize, at: usize) -> bool
@@ -31,6 +32,13 @@ pub fn read_u32(bytes: &[u8], at: usize) -> u32
     ensures { result ≡ number_at 4 at bytes.now }
 {
     BigEndian::read_u32(&bytes[at..])
+}
+
+pub fn read_u32_little(bytes: &[u8], at: usize) -> u32
+    requires { at + 4 ≤ length bytes.now }
+    ensures { result ≡ little_number_at 4 at bytes.now }
+{
+    LittleEndian::read_u32(&bytes[at..])
 }
 
 pub fn read_u128(bytes: &[u8], at: usize) -> u128

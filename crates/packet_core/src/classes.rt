@@ -1,87 +1,60 @@
-//! The class that a policy assigns to a packet.
-ghost use Rattle.std.specs.Prelude.{◌≡◌, ◌<◌, Some, length, position};
-ghost use Rattle.packet_defs.specs.Condition.{agree, class_of, has_version, meets, value_of};
-ghost use Rattle.packet_core.specs.Conditions.{condition_of, conditions_of, field_of, meets_all};
+//! The classes of a policy, prepared in one of two ways.
+ghost use Rattle.std.specs.Prelude.{◌≡◌, IfOk, IfSome, position};
+ghost use Rattle.packet_core.specs.Numbers as prepared;
+ghost use Rattle.packet_core.specs.Rules.{one_passes};
+ghost use Rattle.packet_core.specs.Classes.{AreBounds, AreRules};
 
-use packet_defs::Fields;
-use policy_core::{Class, Policy};
-use policy_text_defs::{Condition, FieldName};
+use crate::numbers::COUNT;
+use crate::prepared::{Prepared, is_met, prepare};
+use crate::rules::{Alternatives, one_passes, prepare_alternatives};
+use packet_defs::Header;
+use policy_core::Class;
+use std::alloc::{AllocError, Global};
 
-/// Returns the value of a field if it is present. `len` is the packet's original length in bytes.
-fn value_of(field: FieldName, fields: &Fields, len: u32) -> Option<u32>
-    ensures { result ≡ value_of (field_of field) fields.now len }
+/// Prepares classes as bounds, if each can be prepared so.
+pub(crate) fn bound_classes(
+    alloc: Global,
+    given: &[Class],
+) -> Result<Option<Vec<Prepared>>, AllocError>
+    ensures { IfOk result (λ some. IfSome some (λ classes. AreBounds classes.items given.now)) }
 {
-    match field {
-        FieldName::Vlan => fields.vlan.map(u32::from),
-        FieldName::Dscp => fields.dscp.map(u32::from),
-        FieldName::Proto => fields.proto.map(u32::from),
-        FieldName::Sport => fields.sport.map(u32::from),
-        FieldName::Dport => fields.dport.map(u32::from),
-        FieldName::Len => Some(len),
+    let mut classes = Vec::new(alloc);
+    for class in given {
+        let Some(prepared) = prepare(alloc, class.conditions.as_slice())? else {
+            return Ok(None);
+        };
+        classes.push(prepared)?;
     }
+    Ok(Some(classes))
 }
 
+/// Prepares the tests of classes.
+pub(crate) fn tested_classes(
+    alloc: Global,
+    given: &[Class],
+) -> Result<Vec<Alternatives>, AllocError>
+    ensures { IfOk result (λ classes. AreRules classes.items given.now) }
+{
+    let mut classes = Vec::new(alloc);
+    for class in given {
+        classes.push(prepare_alternatives(alloc, class.conditions.as_slice())?)?;
+    }
+    Ok(classes)
+}
+
+/// Returns the index of the first class that is met, if there is one.
 #[inline(always)]
-pub(crate) fn has_version(version: u8, fields: &Fields) -> bool
-    ensures { result ≡ has_version version fields.now }
+pub(crate) fn place_met(classes: &[Prepared], numbers: &[u64; COUNT]) -> Option<usize>
+    ensures { result ≡ position (prepared.is_met numbers.now) classes.now }
 {
-    fields.version == Some(version)
+    classes.iter().position(|class| is_met(class, numbers))
 }
 
-/// Returns whether an address agrees with an IPv4 address in the first `bits` of its 32 bits.
-fn agree(bits: u32, address: u32, other: u128) -> bool
-    ensures { result ≡ agree bits address other }
+/// Returns the index of the first class to which a packet of this original length belongs.
+pub(crate) fn place_passed(classes: &[Alternatives], header: &Header, len: u32) -> Option<usize>
+    ensures { result ≡ position (λ c. one_passes header.now len c.all.items) classes.now }
 {
-    let others = 32u32.saturating_sub(bits);
-    u128::from(address) >> others == other >> others
-}
-
-/// Returns whether a packet of this original length meets a condition.
-fn meets(condition: Condition, fields: &Fields, len: u32) -> bool
-    ensures { result ≡ meets fields.now len (condition_of condition) }
-{
-    match condition {
-        Condition::Field(field, low, high) => match value_of(field, fields, len) {
-            Some(value) => low <= value && value <= high,
-            None => false,
-        },
-        Condition::Source(address, bits) => match fields.source {
-            Some(source) => has_version(4, fields) && agree(bits, address, source),
-            None => false,
-        },
-        Condition::Dest(address, bits) => match fields.target {
-            Some(target) => has_version(4, fields) && agree(bits, address, target),
-            None => false,
-        },
-        Condition::Ipv4 => has_version(4, fields),
-        Condition::Ipv6 => has_version(6, fields),
-    }
-}
-
-fn meets_all(conditions: &[Condition], fields: &Fields, len: u32) -> bool
-    ensures { result ≡ meets_all fields.now len conditions.now }
-{
-    conditions
+    classes
         .iter()
-        .all(|condition| meets(*condition, fields, len))
-}
-
-/// Returns the index of the first class of which a packet of this original length meets all
-/// conditions.
-pub(crate) fn first_met(classes: &[Class], fields: &Fields, len: u32) -> Option<usize>
-    ensures { result ≡ position (λ c. meets_all fields.now len c.conditions) classes.now }
-{
-    classes.iter().position(|class| meets_all(class.conditions.as_slice(), fields, len))
-}
-
-/// Returns the first class of which a packet of this original length meets all conditions. The last
-/// class has no conditions, so there always is one.
-pub fn classify(policy: &Policy, fields: &Fields, len: u32) -> u32
-    ensures class { class_of (conditions_of policy.now.conditions) fields.now len ≡ Some result }
-    ensures there { result < length policy.now.policy.classes }
-{
-    match first_met(policy.classes(), fields, len) {
-        Some(number) => number as u32,
-        None => unreachable!(),
-    }
+        .position(|class| one_passes(class, header, len))
 }

@@ -1,25 +1,24 @@
 //! The classes of a policy, prepared for classifying many packets.
 ghost use Rattle.std.specs.Prelude.{◌≡◌, ◌≤◌, ℕ, Some, length, position};
+ghost use Rattle.std.specs.Prelude.{true, false};
 ghost use Rattle.packet_core.specs.Numbers as prepared;
-ghost use Rattle.packet_core.specs.Classes.{AreSame, GivesEach};
+ghost use Rattle.packet_core.specs.Tests.{classes_of};
+ghost use Rattle.packet_core.specs.Rules.{one_asks};
+ghost use Rattle.packet_core.specs.Classes.{AreSame, AreTested, GivesEach};
 
+use crate::asks::one_asks;
+use crate::classes::{bound_classes, place_met, place_passed, tested_classes};
 use crate::ethernet::{IPV4, IPV6, TYPE_PLACE, read_ethernet, tag, type_at, type_place};
+use crate::extra::{no_extra, read_extra};
 use crate::flows::flow;
-use crate::headers::{ETHERNET, RAW, read_fields};
+use crate::headers::{ETHERNET, RAW, read_fields_in, read_raw};
 use crate::internet::{ipv4_fields, ipv6_fields, is_ipv4, is_ipv6, no_fields};
 use crate::numbers::{COUNT, numbers_of};
-use crate::prepared::{Prepared, is_met, prepare};
-use packet_defs::{Fields, Packet};
+use crate::prepared::Prepared;
+use crate::rules::Alternatives;
+use packet_defs::{Fields, Header, Packet};
 use policy_core::Policy;
 use std::alloc::{AllocError, Global};
-
-/// Returns the index of the first class that is met, if there is one.
-#[inline(always)]
-fn place_met(classes: &[Prepared], numbers: &[u64; COUNT]) -> Option<usize>
-    ensures { result ≡ position (prepared.is_met numbers.now) classes.now }
-{
-    classes.iter().position(|class| is_met(class, numbers))
-}
 
 /// Returns the index of the first class that is met, if there is one.
 fn first_met(classes: &[Prepared], numbers: &[u64; COUNT]) -> usize
@@ -36,51 +35,133 @@ fn first_met(classes: &[Prepared], numbers: &[u64; COUNT]) -> usize
 #[derive(Drop)]
 pub struct Classifier<'a> {
     policy: &'a Policy,
+    /// Whether each class is prepared as bounds, in `classes`. Otherwise all are in `tested`.
+    bounded: bool,
     classes: Vec<Prepared>,
-    ghost same: { AreSame policy.now.conditions classes.items },
+    tested: Vec<Alternatives>,
+    /// Whether a test names an extra header field.
+    asks: bool,
+    ghost same: { bounded ≡ true → AreSame policy.now.conditions classes.items },
+    ghost tests: { bounded ≡ false → AreTested policy.now.conditions tested.items },
+    ghost asked: { asks ≡ false → one_asks (classes_of policy.now.conditions) ≡ false },
     ghost given: { GivesEach policy.now.conditions },
-    ghost count: { length classes.items ≡ length policy.now.policy.classes },
-    ghost few: { length classes.items ≤ 256 },
+    ghost count: { length policy.now.conditions ≡ length policy.now.policy.classes },
+    ghost few: { length policy.now.policy.classes ≤ 256 },
 }
 
 impl<'a> Classifier<'a> {
-    ghost use Rattle.std.specs.Prelude.{◌≡◌, ◌<◌, ◌^◌, ℕ, Some, IfOk, length};
-    ghost use Rattle.packet_defs.specs.Condition.{class_of};
+    ghost use Rattle.std.specs.Prelude.{◌≡◌, ◌<◌, ◌^◌, ℕ, Some, IfOk, length, true, false};
+    ghost use Rattle.packet_defs.specs.declared.extra.ExtraFields.{ExtraFields};
+    ghost use Rattle.packet_defs.specs.Test.{class_among};
     ghost use Rattle.packet_defs.specs.Internet.{ipv4_at, ipv6_at};
     ghost use Rattle.packet_defs.specs.Ethernet.{ethernet_fields};
-    ghost use Rattle.packet_defs.specs.Headers.{fields_of};
-    ghost use Rattle.packet_core.specs.Conditions.{conditions_of};
-    ghost use Rattle.packet_core.specs.Classes.{IsSorted};
-    ghost use Rattle.packet_core.specs.Classifier.{policy_of};
+    ghost use Rattle.packet_defs.specs.Extra.{header_in};
+    ghost use Rattle.packet_core.specs.Tests.{classes_of};
+    ghost use Rattle.packet_core.specs.Classes.{IsSorted, IsSortedByFields};
+    ghost use Rattle.packet_core.specs.Classifier.{policy_of, HasClassOf};
 
     /// Prepares the classes of a policy. The only error is out of memory.
     pub fn new(alloc: Global, policy: &'a Policy) -> Result<Classifier<'a>, AllocError>
         ensures { IfOk result (λ classifier. policy_of classifier ≡ policy.now) }
     {
-        let mut classes = Vec::new(alloc);
-        for class in policy.classes() {
-            classes.push(prepare(alloc, class.conditions.as_slice())?)?;
+        let given = policy.classes();
+        match bound_classes(alloc, given)? {
+            Some(classes) => Ok(Classifier {
+                policy,
+                bounded: true,
+                classes,
+                tested: Vec::new(alloc),
+                asks: one_asks(given),
+            }),
+            None => Ok(Classifier {
+                policy,
+                bounded: false,
+                classes: Vec::new(alloc),
+                tested: tested_classes(alloc, given)?,
+                asks: one_asks(given),
+            }),
         }
-        Ok(Classifier { policy, classes })
     }
 
-    /// Returns the first class of which a packet of this original length meets all conditions.
+    /// Returns the first class to which a packet of this original length belongs, whatever its extra
+    /// fields, if the classes are prepared as bounds.
     #[inline(always)]
-    fn class_of(&self, fields: &Fields, len: u32) -> u32
-        ensures class { class_of (conditions_of (policy_of self.now).conditions) fields.now len ≡
-            Some result }
+    fn class_met(&self, fields: &Fields, len: u32) -> u32
+        requires { self.now.bounded ≡ true }
+        ensures class { (extra : ExtraFields) → class_among
+            (classes_of (policy_of self.now).conditions)
+            (record { fields = fields.now; extra = extra }) len ≡ Some result }
         ensures there { result < length (policy_of self.now).policy.classes }
     {
         first_met(&self.classes, &numbers_of(fields, len)) as u32
+    }
+
+    /// Returns the first class to which a packet of this original length belongs, if the classes
+    /// aren't prepared as bounds.
+    fn class_passed(&self, header: &Header, len: u32) -> u32
+        requires { self.now.bounded ≡ false }
+        ensures class { class_among (classes_of (policy_of self.now).conditions) header.now len ≡
+            Some result }
+        ensures there { result < length (policy_of self.now).policy.classes }
+    {
+        match place_passed(&self.tested, header, len) {
+            Some(place) => place as u32,
+            None => unreachable!(),
+        }
+    }
+
+    /// Returns the first class to which a packet with this header and this original length belongs.
+    pub fn class_of(&self, header: &Header, len: u32) -> u32
+        ensures class { class_among (classes_of (policy_of self.now).conditions) header.now len ≡
+            Some result }
+        ensures there { result < length (policy_of self.now).policy.classes }
+    {
+        if self.bounded {
+            self.class_met(&header.fields, len)
+        } else {
+            self.class_passed(header, len)
+        }
+    }
+
+    /// Reads the header of captured bytes. Reads the extra fields only if a test names one.
+    fn read_header(&self, link: u16, bytes: &[u8]) -> Header
+        ensures { HasClassOf (policy_of self.now)
+            (header_in (policy_of self.now).policy.version link bytes.now) result }
+    {
+        let fields = read_fields_in(self.policy.version(), link, bytes);
+        if !self.asks {
+            return Header {
+                fields,
+                extra: no_extra(),
+            };
+        }
+        Header {
+            fields,
+            extra: read_extra(link, bytes),
+        }
+    }
+
+    /// Sets the class and the flow of a packet whose classes aren't prepared as bounds. It is a call
+    /// of its own to keep `classify` short.
+    #[inline(never)]
+    fn put_passed(&self, link: u16, bytes: &[u8], packet: &mut Packet)
+        requires { self.now.bounded ≡ false }
+        ensures { IsSorted (policy_of self.now)
+            (header_in (policy_of self.now).policy.version link bytes.now) packet.old packet.new }
+    {
+        let header = self.read_header(link, bytes);
+        packet.class = self.class_passed(&header, packet.len);
+        packet.flow = flow(&header.fields);
     }
 
     /// Sets the class and the flow of a packet from these fields. The packet's original length is
     /// already set.
     #[inline(always)]
     fn put(&self, fields: &Fields, packet: &mut Packet)
-        ensures { IsSorted (policy_of self.now) fields.now packet.old packet.new }
+        requires { self.now.bounded ≡ true }
+        ensures { IsSortedByFields (policy_of self.now) fields.now packet.old packet.new }
     {
-        packet.class = self.class_of(fields, packet.len);
+        packet.class = self.class_met(fields, packet.len);
         packet.flow = flow(fields);
     }
 
@@ -88,9 +169,10 @@ impl<'a> Classifier<'a> {
     /// `at`.
     #[inline(always)]
     fn put_ipv4(&self, vlan: Option<u16>, bytes: &[u8], at: usize, packet: &mut Packet)
-        requires { at < 2 ^ 32 }
-        ensures { IsSorted (policy_of self.now) (record (ipv4_at at bytes.now) { vlan = vlan })
-            packet.old packet.new }
+        requires bounded { self.now.bounded ≡ true }
+        requires bound { at < 2 ^ 32 }
+        ensures { IsSortedByFields (policy_of self.now)
+            (record (ipv4_at at bytes.now) { vlan = vlan }) packet.old packet.new }
     {
         if is_ipv4(bytes, at) {
             let fields = ipv4_fields(bytes, at);
@@ -110,9 +192,10 @@ impl<'a> Classifier<'a> {
     /// `at`.
     #[inline(always)]
     fn put_ipv6(&self, vlan: Option<u16>, bytes: &[u8], at: usize, packet: &mut Packet)
-        requires { at < 2 ^ 32 }
-        ensures { IsSorted (policy_of self.now) (record (ipv6_at at bytes.now) { vlan = vlan })
-            packet.old packet.new }
+        requires bounded { self.now.bounded ≡ true }
+        requires bound { at < 2 ^ 32 }
+        ensures { IsSortedByFields (policy_of self.now)
+            (record (ipv6_at at bytes.now) { vlan = vlan }) packet.old packet.new }
     {
         if is_ipv6(bytes, at) {
             let fields = ipv6_fields(bytes, at);
@@ -131,7 +214,9 @@ impl<'a> Classifier<'a> {
     /// Sets the class and the flow of a packet captured as an Ethernet frame.
     #[inline(always)]
     fn put_ethernet(&self, bytes: &[u8], packet: &mut Packet)
-        ensures { IsSorted (policy_of self.now) (ethernet_fields bytes.now) packet.old packet.new }
+        requires { self.now.bounded ≡ true }
+        ensures { IsSortedByFields (policy_of self.now) (ethernet_fields bytes.now) packet.old
+            packet.new }
     {
         let vlan = tag(bytes, TYPE_PLACE);
         let place = type_place(vlan.is_some(), bytes);
@@ -142,16 +227,32 @@ impl<'a> Classifier<'a> {
         }
     }
 
-    /// Sets the class and the flow of a packet from its link type and captured bytes. The packet's
-    /// original length is already set.
+    /// Sets the class and the flow of a packet with a less common link type. It is a call of its
+    /// own to keep `classify` short.
+    #[inline(never)]
+    fn put_other(&self, link: u16, bytes: &[u8], packet: &mut Packet)
+        requires { self.now.bounded ≡ true }
+        ensures { IsSorted (policy_of self.now)
+            (header_in (policy_of self.now).policy.version link bytes.now) packet.old packet.new }
+    {
+        self.put(&read_fields_in(self.policy.version(), link, bytes), packet);
+    }
+
+    /// Sets the class and the flow of a packet from its link type and captured bytes, by the version
+    /// of the policy. The packet's original length is already set.
     #[inline]
     pub fn classify(&self, link: u16, bytes: &[u8], packet: &mut Packet)
-        ensures { IsSorted (policy_of self.now) (fields_of link bytes.now) packet.old packet.new }
+        ensures { IsSorted (policy_of self.now)
+            (header_in (policy_of self.now).policy.version link bytes.now) packet.old packet.new }
     {
+        if !self.bounded {
+            return self.put_passed(link, bytes, packet);
+        }
         match link {
             ETHERNET => self.put_ethernet(bytes, packet),
             RAW if is_ipv4(bytes, 0) => self.put(&ipv4_fields(bytes, 0), packet),
-            _ => self.put(&read_fields(link, bytes), packet),
+            RAW => self.put(&read_raw(bytes), packet),
+            _ => self.put_other(link, bytes, packet),
         }
     }
 }

@@ -1,6 +1,6 @@
 //! The header of an Ethernet II frame and its VLAN tags (IEEE 802.1Q).
 ghost use Rattle.std.specs.Prelude.{◌≡◌, ◌≤◌, ◌<◌, ◌+◌, ◌^◌, is_some};
-ghost use Rattle.packet_defs.specs.Ethernet.{is_tag_type, tag_at, type_place, ether_type, carried_fields, ethernet_fields};
+ghost use Rattle.packet_defs.specs.Ethernet.{tag_with, tag_at, type_place_from, type_place, type_at, carried_fields, payload_fields, ethernet_fields};
 
 use crate::bytes::{is_captured, read_u16};
 use crate::internet::{no_fields, read_ipv4, read_ipv6};
@@ -21,17 +21,42 @@ pub const IPV4: u16 = 0x0800;
 
 pub const IPV6: u16 = 0x86DD;
 
+/// Returns the VLAN id of a tag whose type is at `at` and whose id is at `id`, if the type after the
+/// tag is captured too.
+#[inline(always)]
+pub fn tag_with(bytes: &[u8], at: usize, id: usize) -> Option<u16>
+    requires order { at ≤ id }
+    requires bound { id < 2 ^ 33 }
+    ensures { result ≡ tag_with at id bytes.now }
+{
+    if !is_captured(bytes, 4, id) {
+        return None;
+    }
+    match read_u16(bytes, at) {
+        CUSTOMER_TAG | SERVICE_TAG => Some(read_u16(bytes, id) & 0xFFF),
+        _ => None,
+    }
+}
+
 /// Returns the VLAN id of the tag at a position, if the tag and the type after it are captured.
 pub fn tag(bytes: &[u8], at: usize) -> Option<u16>
     requires { at < 2 ^ 32 }
     ensures { result ≡ tag_at at bytes.now }
 {
-    if !is_captured(bytes, 6, at) {
-        return None;
-    }
-    match read_u16(bytes, at) {
-        CUSTOMER_TAG | SERVICE_TAG => Some(read_u16(bytes, at + 2) & 0xFFF),
-        _ => None,
+    tag_with(bytes, at, at + 2)
+}
+
+/// Returns the position of the type, if a tag can be at `at`.
+#[inline(always)]
+pub fn type_place_from(bytes: &[u8], at: usize) -> usize
+    requires { at < 2 ^ 32 }
+    ensures value { result ≡ type_place_from at bytes.now }
+    ensures bound { result ≤ at + 4 }
+{
+    if tag(bytes, at).is_none() {
+        at
+    } else {
+        at + TAG_LEN
     }
 }
 
@@ -41,49 +66,52 @@ pub fn type_place(tagged: bool, bytes: &[u8]) -> usize
     ensures value { result ≡ type_place bytes.now }
     ensures bound { result ≤ 20 }
 {
-    if !tagged {
-        TYPE_PLACE
-    } else if tag(bytes, TYPE_PLACE + TAG_LEN).is_none() {
-        TYPE_PLACE + TAG_LEN
+    if tagged {
+        type_place_from(bytes, TYPE_PLACE + TAG_LEN)
     } else {
-        TYPE_PLACE + 2 * TAG_LEN
+        TYPE_PLACE
     }
 }
 
-/// Returns the type at `place`, if it is captured.
-pub fn type_at(bytes: &[u8], place: usize) -> Option<u16>
-    requires there { place ≡ type_place bytes.now }
-    requires bound { place ≤ 20 }
-    ensures { result ≡ ether_type bytes.now }
+/// Returns the type at a position, if it is captured.
+pub fn type_at(bytes: &[u8], at: usize) -> Option<u16>
+    requires { at < 2 ^ 32 }
+    ensures { result ≡ type_at at bytes.now }
 {
-    if is_captured(bytes, 2, place) {
-        Some(read_u16(bytes, place))
+    if is_captured(bytes, 2, at) {
+        Some(read_u16(bytes, at))
     } else {
         None
     }
 }
 
-/// Reads the fields of a frame's payload.
-fn read_carried(bytes: &[u8]) -> Fields
-    ensures { result ≡ carried_fields (ether_type bytes.now) (type_place bytes.now + 2) bytes.now }
+/// Reads the fields of a payload of this type at a position.
+pub fn read_carried(carried: Option<u16>, bytes: &[u8], at: usize) -> Fields
+    requires { at < 2 ^ 32 }
+    ensures { result ≡ carried_fields carried at bytes.now }
 {
-    let place = type_place(tag(bytes, TYPE_PLACE).is_some(), bytes);
-    if !is_captured(bytes, 2, place) {
-        return no_fields();
-    }
-    match read_u16(bytes, place) {
-        IPV4 => read_ipv4(bytes, place + 2),
-        IPV6 => read_ipv6(bytes, place + 2),
+    match carried {
+        Some(IPV4) => read_ipv4(bytes, at),
+        Some(IPV6) => read_ipv6(bytes, at),
         _ => no_fields(),
     }
+}
+
+/// Reads the fields of the payload after the type at a position.
+pub fn read_payload(bytes: &[u8], at: usize) -> Fields
+    requires { at < 2 ^ 31 }
+    ensures { result ≡ payload_fields at bytes.now }
+{
+    read_carried(type_at(bytes, at), bytes, at + 2)
 }
 
 /// Reads the fields of a frame.
 pub fn read_ethernet(bytes: &[u8]) -> Fields
     ensures { result ≡ ethernet_fields bytes.now }
 {
+    let vlan = tag(bytes, TYPE_PLACE);
     Fields {
-        vlan: tag(bytes, TYPE_PLACE),
-        ..read_carried(bytes)
+        vlan,
+        ..read_payload(bytes, type_place(vlan.is_some(), bytes))
     }
 }

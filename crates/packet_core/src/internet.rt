@@ -10,9 +10,9 @@ use packet_defs::Fields;
 const IPV4_LEN: usize = 20;
 
 /// The length in bytes of an IPv6 header (RFC 8200 3).
-const IPV6_LEN: usize = 40;
+pub const IPV6_LEN: usize = 40;
 
-const TCP: u8 = 6;
+pub const TCP: u8 = 6;
 
 const UDP: u8 = 17;
 
@@ -69,7 +69,7 @@ pub fn is_ipv6(bytes: &[u8], at: usize) -> bool
 }
 
 /// Returns the position after an IPv4 header.
-fn behind_ipv4(bytes: &[u8], at: usize) -> usize
+pub fn behind_ipv4(bytes: &[u8], at: usize) -> usize
     requires { at + 1 ≤ length bytes.now }
     ensures value { result ≡ behind_ipv4 at bytes.now }
     ensures bound { result ≤ at + 60 }
@@ -77,13 +77,21 @@ fn behind_ipv4(bytes: &[u8], at: usize) -> usize
     at + 4 * usize::from(read_u8(bytes, at) & 0xF)
 }
 
+/// Returns whether an IPv4 header is that of a first fragment, or of a whole packet.
+#[inline(always)]
+pub fn is_first_fragment(bytes: &[u8], at: usize) -> bool
+    requires { at + 20 ≤ length bytes.now }
+    ensures { result ≡ is_first_fragment at bytes.now }
+{
+    read_u16(bytes, at + 6) & 0x1FFF == 0
+}
+
 /// Returns whether two ports follow an IPv4 header and are captured.
 fn has_ipv4_ports(bytes: &[u8], at: usize) -> bool
     requires { at + 20 ≤ length bytes.now }
     ensures { result ≡ has_ipv4_ports at bytes.now }
 {
-    let first = read_u16(bytes, at + 6) & 0x1FFF == 0;
-    first && has_ports(read_u8(bytes, at + 9), bytes, behind_ipv4(bytes, at))
+    is_first_fragment(bytes, at) && has_ports(read_u8(bytes, at + 9), bytes, behind_ipv4(bytes, at))
 }
 
 /// Reads the fields of an IPv4 header at this position, or no fields if none begins there.

@@ -1,20 +1,31 @@
 //! The header fields, the flow and the class of a captured packet. Begin with
-//! specs/Conditions.antt.
+//! specs/Tests.antt.
 #![tactic(auto)]
 
+mod asks;
 mod bounds;
 mod bytes;
 mod classes;
 mod classifier;
+mod cooked;
 mod ethernet;
+mod extra;
 mod flows;
 mod headers;
 mod internet;
+mod laws;
+mod loopback;
 mod numbers;
 mod prepared;
+mod ranges;
+mod rules;
+mod tests;
+mod unprepared;
 
-pub use classes::classify;
 pub use classifier::Classifier;
+pub use extra::{no_extra, read_extra};
 pub use flows::flow;
-pub use headers::read_fields;
-pub use packet_defs::{Departed, Fields, Packet};
+pub use headers::{read_fields, read_fields_in};
+pub use laws::classic_classes_are_kept;
+pub use packet_defs::{Departed, ExtraFields, Fields, Header, Packet};
+pub use unprepared::classify;

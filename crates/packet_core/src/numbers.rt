@@ -1,9 +1,9 @@
 //! The numbers of a packet that conditions bound, each at its own index.
 ghost use Rattle.std.specs.Prelude.{◌≡◌, ◌<◌};
-ghost use Rattle.packet_core.specs.Conditions.{field_of};
+ghost use Rattle.packet_core.specs.Tests.{field_of};
 ghost use Rattle.packet_core.specs.Numbers.{address, number, numbers_of, place};
 
-use crate::classes::has_version;
+use crate::tests::has_version;
 use packet_defs::Fields;
 use policy_text_defs::FieldName;
 

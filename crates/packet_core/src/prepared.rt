@@ -1,18 +1,21 @@
-//! The conditions of a class, prepared for testing many packets.
-ghost use Rattle.std.specs.Prelude.{◌≡◌, ◌<◌, ◌^◌, ◌&&◌, ℕ, true, nat_le, IfOk};
+//! Classes whose tests are bounds on numbers, prepared for testing many packets.
+ghost use Rattle.std.specs.Prelude.{◌≡◌, ◌<◌, ◌^◌, ◌&&◌, ℕ, true, nat_le, map, IfOk, IfSome};
 ghost use Rattle.std.specs.List.{list_all};
 ghost use Rattle.packet_defs.specs.declared.fields.Fields.{Fields};
+ghost use Rattle.packet_defs.specs.declared.extra.Header.{Header};
 ghost use Rattle.packet_defs.specs.Condition.{agree, has_version, in_range, meets};
-ghost use Rattle.packet_core.specs.Conditions.{condition_of, field_of, meets_all};
+ghost use Rattle.packet_defs.specs.Test.{among, belongs, is_found, named, passes};
+ghost use Rattle.packet_core.specs.Tests.{field_of, passes_all, probe_of, range_of, test_of, tests_of};
 ghost use Rattle.packet_core.specs.Numbers.{holds, is_met, numbers_of};
 
 use crate::bounds::Bounds;
 use crate::numbers::{COUNT, SOURCE, TARGET, VERSION, place_of};
-use policy_text_defs::{Condition, FieldName};
+use list_core::List;
+use policy_text_defs::{FieldName, Prefix, Probe, Range, Test, TestField};
 use std::alloc::{AllocError, Global};
 
-/// The bounds of a class, one for each condition. A class without conditions has bounds that every
-/// packet meets.
+/// The bounds of a class, one for each test. A class without tests has bounds that every packet
+/// meets.
 #[derive(Drop)]
 pub(crate) struct Prepared {
     pub(crate) first: Bounds,
@@ -60,18 +63,43 @@ fn version(number: u8) -> Bounds
     }
 }
 
-/// Returns the bounds of a condition.
-fn bound_of(condition: Condition) -> Bounds
-    ensures { (fields : Fields) (n : ℕ) → holds (numbers_of fields n) result ≡
-        meets fields n (condition_of condition) }
+/// Returns the bounds of a field that is in these ranges, if there is one range.
+fn range_bounds(field: FieldName, ranges: &[Range]) -> Option<Bounds>
+    ensures { IfSome result (λ bounds. (header : Header) (n : ℕ) →
+        holds (numbers_of header.fields n) bounds ≡
+        is_found header n (among (named (field_of field)) (map range_of ranges.now))) }
 {
-    match condition {
-        Condition::Field(field, low, high) => return within(field, low, high),
-        Condition::Source(address, bits) => return prefix(SOURCE, address, bits),
-        Condition::Dest(address, bits) => return prefix(TARGET, address, bits),
-        Condition::Ipv4 => return version(4),
-        Condition::Ipv6 => return version(6),
+    if ranges.len() != 1 {
+        return None;
     }
+    let range = ranges[0];
+    Some(within(field, range.low, range.high))
+}
+
+/// Returns the bounds of a probe, if it is one bound on one number.
+fn probe_bounds(probe: &Probe) -> Option<Bounds>
+    ensures { IfSome result (λ bounds. (header : Header) (n : ℕ) →
+        holds (numbers_of header.fields n) bounds ≡ is_found header n (probe_of probe.now)) }
+{
+    match probe {
+        Probe::Among(TestField::Named(field), ranges) => range_bounds(*field, ranges.as_slice()),
+        Probe::Source(Prefix::V4(address, bits)) => Some(prefix(SOURCE, *address, *bits)),
+        Probe::Dest(Prefix::V4(address, bits)) => Some(prefix(TARGET, *address, *bits)),
+        Probe::Ipv4 => Some(version(4)),
+        Probe::Ipv6 => Some(version(6)),
+        _ => None,
+    }
+}
+
+/// Returns the bounds of a test, if it is one bound on one number.
+fn bound_of(test: &Test) -> Option<Bounds>
+    ensures { IfSome result (λ bounds. (header : Header) (n : ℕ) →
+        holds (numbers_of header.fields n) bounds ≡ passes header n (test_of test.now)) }
+{
+    if test.negated {
+        return None;
+    }
+    probe_bounds(&test.probe)
 }
 
 /// Returns bounds that every packet meets.
@@ -85,33 +113,59 @@ fn anything() -> Bounds
     }
 }
 
-/// Returns the bounds of conditions.
-fn bounds_of(alloc: Global, conditions: &[Condition]) -> Result<Vec<Bounds>, AllocError>
-    ensures { IfOk result (λ all. (fields : Fields) (n : ℕ) →
-        list_all (holds (numbers_of fields n)) all.items ≡ meets_all fields n conditions.now) }
+/// Returns the bounds of tests, if each is one bound.
+fn bounds_of(alloc: Global, tests: &[Test]) -> Result<Option<Vec<Bounds>>, AllocError>
+    ensures { IfOk result (λ some. IfSome some (λ all. (header : Header) (n : ℕ) →
+        list_all (holds (numbers_of header.fields n)) all.items ≡ passes_all header n tests.now)) }
 {
     let mut all = Vec::new(alloc);
-    for condition in conditions {
-        all.push(bound_of(*condition))?;
+    for test in tests {
+        let Some(bounds) = bound_of(test) else {
+            return Ok(None);
+        };
+        all.push(bounds)?;
     }
-    Ok(all)
+    Ok(Some(all))
 }
 
-/// Prepares the conditions of a class.
-pub(crate) fn prepare(alloc: Global, conditions: &[Condition]) -> Result<Prepared, AllocError>
-    ensures { IfOk result (λ class. (fields : Fields) (n : ℕ) →
-        is_met (numbers_of fields n) class ≡ meets_all fields n conditions.now) }
+/// Prepares the tests of a class with one alternative, if each is one bound.
+fn prepare_tests(alloc: Global, tests: &[Test]) -> Result<Option<Prepared>, AllocError>
+    ensures { IfOk result (λ some. IfSome some (λ class. (header : Header) (n : ℕ) →
+        is_met (numbers_of header.fields n) class ≡ passes_all header n tests.now)) }
 {
-    if conditions.is_empty() {
-        return Ok(Prepared {
+    if tests.is_empty() {
+        return Ok(Some(Prepared {
             first: anything(),
             others: Vec::new(alloc),
-        });
+        }));
     }
-    Ok(Prepared {
-        first: bound_of(conditions[0]),
-        others: bounds_of(alloc, &conditions[1..])?,
-    })
+    let Some(first) = bound_of(&tests[0]) else {
+        return Ok(None);
+    };
+    match bounds_of(alloc, &tests[1..])? {
+        Some(others) => Ok(Some(Prepared { first, others })),
+        None => Ok(None),
+    }
+}
+
+/// Prepares a class as bounds, if it has at most one alternative and each test is one bound.
+pub(crate) fn prepare(
+    alloc: Global,
+    alternatives: &[List<Test>],
+) -> Result<Option<Prepared>, AllocError>
+    ensures { IfOk result (λ some. IfSome some (λ class. (header : Header) (n : ℕ) →
+        is_met (numbers_of header.fields n) class ≡ belongs header n (tests_of alternatives.now))) }
+{
+    if alternatives.is_empty() {
+        return Ok(Some(Prepared {
+            first: anything(),
+            others: Vec::new(alloc),
+        }));
+    }
+    if alternatives.len() > 1 {
+        return Ok(None);
+    }
+    prepare_tests(alloc, alternatives[0].as_slice())
 }
 
 /// Returns whether the number at the index of the bounds is within them.

@@ -8,18 +8,27 @@ use Rattle.packet_defs.specs.Internet.{no_fields, ipv4_at, ipv6_at}
 abbrev pub is_tag_type : ℕ → Bool
 is_tag_type type = (type == 0x8100) || (type == 0x88A8)
 
--- the VLAN id of a tag whose type is at this position, if the type after the tag is captured too
+-- the VLAN id of a tag whose type is at the first position and whose id is at the second, if the
+-- type after the tag is captured too
+abbrev pub tag_with : ℕ → ℕ → List ℕ → Option ℕ
+tag_with at id bytes =
+    if is_captured 4 id bytes && is_tag_type (number_at 2 at bytes) then Some (number_at 2 id bytes % 4096) else None
+
+-- the VLAN id of a tag at this position
 abbrev pub tag_at : ℕ → List ℕ → Option ℕ
-tag_at at bytes =
-    if is_captured 6 at bytes && is_tag_type (number_at 2 at bytes) then Some (number_at 2 (at + 2) bytes % 4096) else None
+tag_at at bytes = tag_with at (at + 2) bytes
 
--- the position of the type, after the two addresses and at most two tags
+-- the position of the type, if a tag can be at this position
+abbrev pub type_place_from : ℕ → List ℕ → ℕ
+type_place_from at bytes = if is_some (tag_at at bytes) then at + 4 else at
+
+-- the position of the type of a frame, after the two addresses and at most two tags
 abbrev pub type_place : List ℕ → ℕ
-type_place bytes = if is_some (tag_at 12 bytes) then (if is_some (tag_at 16 bytes) then 20 else 16) else 12
+type_place bytes = if is_some (tag_at 12 bytes) then type_place_from 16 bytes else 12
 
--- the type, if it is captured
-abbrev pub ether_type : List ℕ → Option ℕ
-ether_type bytes = if is_captured 2 (type_place bytes) bytes then Some (number_at 2 (type_place bytes) bytes) else None
+-- the type at this position, if it is captured
+abbrev pub type_at : ℕ → List ℕ → Option ℕ
+type_at at bytes = if is_captured 2 at bytes then Some (number_at 2 at bytes) else None
 
 -- the fields of the payload of this type at this position
 abbrev pub carried_fields : Option ℕ → ℕ → List ℕ → Fields
@@ -29,6 +38,10 @@ carried_fields (Some type) at bytes =
     else if type == 0x86DD then ipv6_at at bytes
     else no_fields
 
+-- the fields of the payload after the type at this position
+abbrev pub payload_fields : ℕ → List ℕ → Fields
+payload_fields at bytes = carried_fields (type_at at bytes) (at + 2) bytes
+
 -- the fields of a frame: the VLAN id of its first tag, and the fields of its payload
 abbrev pub ethernet_fields : List ℕ → Fields
-ethernet_fields bytes = record (carried_fields (ether_type bytes) (type_place bytes + 2) bytes) { vlan = tag_at 12 bytes }
+ethernet_fields bytes = record (payload_fields (type_place bytes) bytes) { vlan = tag_at 12 bytes }

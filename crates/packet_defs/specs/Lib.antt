@@ -1,7 +1,15 @@
 pub mod Bytes
 pub mod Internet
 pub mod Ethernet
+pub mod Loopback
+pub mod Cooked
 pub mod Headers
+pub mod Extra
 pub mod Flow
 pub mod Condition
+pub mod Test
+pub mod ClassicTests
 pub mod Rows
+pub mod LinkRows
+pub mod ExtraRows
+pub mod TestRows

@@ -1,9 +1,11 @@
 -- The contents left after each result of a reader, in the terms shared by all capture formats.
-use Rattle.pcap_core.proofs.Prelude.{◌≡◌, ap, [], ◌<◌, ◌∙◌, List, None, sym, ℕ, Option, Some, refl, ◌+◌, false, subst, ◌∷◌, option_map_or, IfSome, map, option_map, capture_of-fault, capture_of-header, records_left-fault, records_left-nothing, records_left-record, IsHeaderFault, capture_of, records_left, with_first, most_records, Record, IsRecordFault, moment, Head, IsFrameOf, head_read, contents_in, TakesHeader, TakesRecord, IsWhole, LeavesNothing, LinkedFrame}
+use Rattle.pcap_core.proofs.Prelude.{◌≡◌, ◌≤◌, arith, true, Bool, Ok, ap, [], ◌<◌, ◌∙◌, List, None, sym, ℕ, Option, Some, refl, ◌+◌, false, subst, ◌∷◌, option_map_or, IfSome, map, option_map, capture_of-fault, capture_of-header, records_left-fault, records_left-nothing, records_left-record, IsHeaderFault, capture_of, records_left, with_first, most_records, Record, IsRecordFault, moment, Head, IsFrameOf, head_read, contents_in, TakesHeader, TakesRecord, IsWhole, LeavesNothing, LinkedFrame}
+use Rattle.std.specs.Prelude.{if◌then◌else◌}
 use Rattle.std.proofs.lemmas.Option.{IfSome_then}
 use Rattle.pcap_defs.specs.Packet.{packet_with}
 use Rattle.pcap_defs.specs.Contents.{FaultAt, no_capture, fault_at, in_capture}
-use Rattle.pcap_core.specs.Captures.{packet_of, fault_told, Opens, Comes, IsOneLess, IsAt, LeavesNone}
+use Rattle.pcap_core.specs.Captures.{packet_of, fault_told, Opens, Comes, IsOneLess, IsAt, LeavesNone, Skips}
+use Rattle.pcap_core.specs.Rest.{HasEnded}
 use Rattle.pcap_core.specs.Faults.{fault_in, read_error_as}
 use Rattle.pcap_core.specs.declared.fault.CaptureFault.{CaptureFault}
 use Rattle.pcap_core.specs.declared.fault.CaptureFault.TheVariants.{HeaderCut, BadMagic, PcapNg, Version, RecordCut, DataCut, RecordLong, TooMany, ReadFault, NoMemory}
@@ -101,3 +103,14 @@ halts (Some head) n refusal (Some rest) h =
     (IfSome_then (fault_in refusal) h
     (λ f is. (let e = records_left-fault head.big n rest f is in
     (ap (λ run. map (packet_with head) run.0) e, ap (λ run. option_map fault_at run.1) e))))
+
+-- the result of a call that skips a record, if that succeeds
+pub skips : (some : Bool) (before after : Option Head) (n next : ℕ) (old new : Option (List ℕ)) → after ≡ before → next ≡ n + (if some then 1 else 0) → (some ≡ true → next ≤ most_records)
+    → (some ≡ true → (r : Record) × TakesRecord (option_map_or (λ (h : Head). h.big) before false) r old new) → (some ≡ false → HasEnded old new)
+    → Skips (Ok some) (option_map (contents_in (head_read before) n) old) (option_map (contents_in (head_read after) next) new)
+skips true before after n next old new same given few found ended =
+    let f = found refl in
+    one-less before after n next old new f.0 same given (omega (arith, given, few refl)) f.1
+skips false before after n next old new same given few found ended =
+    let e = ended refl in
+    (ends (head_read before) n old e.ended, leaves (head_read before) n next after old new e.over)

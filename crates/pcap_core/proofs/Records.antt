@@ -139,3 +139,12 @@ record-sound flag big n r None new same few taken = tt
 record-sound flag big n r (Some left) None same few taken = absurd taken.2
 record-sound flag big n r (Some left) (Some rest) same few taken =
     record-clean flag n r taken.0 rest left few taken.2 (subst (λ b. IsSpelling b r taken.0) (sym same) taken.1)
+
+-- and some bytes are left
+pub record-some : (big : Bool) (r : Record) (old new : Option (List ℕ)) → TakesRecord big r old new → IfSome old (λ left. left ≡ [] → true ≡ false)
+record-some big r None new taken = tt
+record-some big r (Some left) None taken = absurd taken.2
+record-some big r (Some left) (Some rest) (spelling, spelled, taken) = λ none.
+    let counted : length left ≡ length spelling + length rest = ap length taken ∙ length-append spelling rest in
+    let nothing : length left ≡ 0 = ap length none in
+    absurd (omega (arith, counted, nothing, spelled.whole))

@@ -1,8 +1,9 @@
 -- The packets that a reader of a capture has yet to return, in any capture format.
-use Rattle.std.specs.Prelude.{◌≡◌, ℕ, Option, Some, None, List, [], ◌∷◌, IfSome, ⊤}
+use Rattle.std.specs.Prelude.{◌≡◌, ℕ, Bool, true, false, Option, Some, None, List, [], ◌∷◌, Result, Ok, Err, IfSome, ⊤}
 use Rattle.pcap_defs.specs.Packet.{CapturedPacket}
 use Rattle.pcap_defs.specs.Contents.{FaultAt, Contents, FileContents, no_capture, holds}
 use Rattle.pcap_core.specs.declared.frame.LinkedFrame.{LinkedFrame}
+use Rattle.pcap_core.specs.Frames.{IsNextFrame}
 use Rattle.outside_core.specs.declared.read_error.ReadError.{ReadError}
 use Rattle.outside_core.specs.declared.read_error.ReadError.TheVariants.{Fault, Source, Memory}
 
@@ -45,3 +46,17 @@ nothing_left = record { packets = []; fault = None }
 -- nothing is left now, if the contents left before were known to the contract
 abbrev pub LeavesNone : Option Contents → Option Contents → Type 0
 LeavesNone old new = IfSome old (λ contents. new ≡ Some nothing_left)
+
+-- A call after `n` packets returns the next packet of the contents left, with these captured bytes. It
+-- returns none only if none is left, and then nothing is left for a later call. A fault that it
+-- reports is that of the contents.
+abbrev pub Reads : Result (Option LinkedFrame) ReadError → Option Contents → Option Contents → ℕ → List ℕ → Type 0
+Reads (Ok (Some f)) old new n captured = Comes old new (packet_of f captured) × IsNextFrame n f.frame captured
+Reads (Ok None) old new n captured = IsAt None old × LeavesNone old new
+Reads (Err error) old new n captured = StopsAt old error
+
+-- the same for a call that skips a packet
+abbrev pub Skips : Result Bool ReadError → Option Contents → Option Contents → Type 0
+Skips (Ok true) old new = IsOneLess old new
+Skips (Ok false) old new = IsAt None old × LeavesNone old new
+Skips (Err error) old new = StopsAt old error

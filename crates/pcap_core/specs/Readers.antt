@@ -1,9 +1,14 @@
 -- The state of a reader of captures.
-use Rattle.std.specs.Prelude.{◌≡◌, ℕ, Bool, true, false, Option, None, List}
+use Rattle.std.specs.Prelude.{◌≡◌, ◌≤◌, ◌+◌, ◌↔◌, ℕ, Bool, true, false, Option, None, List, [], length, Result, IfOk, IfErr, IfSome, IsErr, IsOk, IsSome, IsTrue, MatchResult, if◌then◌else◌}
 use Rattle.std.specs.Option.{option_map_or}
 use Rattle.pcap_defs.specs.declared.head.Head.{Head}
 use Rattle.pcap_core.specs.Held.{held, bytes_taken}
-use Rattle.pcap_core.specs.Rest.{rest_of}
+use Rattle.pcap_defs.specs.Fault.{Fault}
+use Rattle.pcap_defs.specs.Record.{IsRecordFault}
+use Rattle.pcap_core.specs.declared.fault.CaptureFault.{CaptureFault}
+use Rattle.pcap_core.specs.Faults.{fault_in}
+use Rattle.pcap_core.specs.Limits.{most_held}
+use Rattle.pcap_core.specs.Rest.{rest_of, HasEnded}
 use Rattle.pcap_core.specs.declared.reader.Reader.{Reader}
 
 -- the header values, once the header is read
@@ -39,6 +44,26 @@ pub record IsFresh (reader : Reader) : Type 0 where
   pub none_given : records_given reader ≡ 0
   pub live : is_live reader ≡ true
 
+-- the header was read, and no call has returned an error
+pub record IsReady (reader : Reader) : Type 0 where
+  pub started : IsSome (head_of reader)
+  pub live : IsTrue (is_live reader)
+
 -- the remaining bytes of the capture, if the rest of the file is known to the contract
 abbrev pub rest_left : Reader → Option (List ℕ) → Option (List ℕ)
 rest_left reader left = rest_of (bytes_held reader) left
+
+-- A call that reads or skips a record after `n` records says that there is none exactly if nothing is
+-- left. A fault that it returns is that of the remaining bytes, and if these have one, it fails.
+pub record StopsRightly {X : Type 0} (came : X → Bool) (big : Bool) (n : ℕ) (result : Result X CaptureFault) (old new : Option (List ℕ)) : Type 0 where
+  pub ended : IfOk result (λ x. came x ≡ false → HasEnded old new)
+  pub ends : IfSome old (λ left. left ≡ [] → MatchResult result (λ x. came x ≡ false) (λ e. fault_in e ≡ None))
+  pub fault : IfErr result (λ e. IfSome (fault_in e) (λ fault. IfSome old (λ left. IsRecordFault big n left fault)))
+  pub refused : IfSome old (λ left. (fault : Fault) → IsRecordFault big n left fault → IsErr result)
+
+-- The reader counts the record if there was one, keeps the header, and is live unless the call failed.
+pub record Counts {X : Type 0} (came : X → Bool) (result : Result X CaptureFault) (old new : Reader) : Type 0 where
+  pub given : IfOk result (λ x. records_given new ≡ records_given old + (if came x then 1 else 0))
+  pub head : head_of new ≡ head_of old
+  pub live : IsTrue (is_live new) ↔ IsOk result
+  pub bounded : length (bytes_held new) ≤ most_held

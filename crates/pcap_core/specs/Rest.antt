@@ -21,6 +21,11 @@ IsWhole rest = IfSome rest (λ bytes. bytes ≡ [])
 abbrev pub LeavesNothing : Option (List ℕ) → Option (List ℕ) → Type 0
 LeavesNothing old new = IfSome old (λ bytes. new ≡ Some [])
 
+-- nothing was left, and nothing is left now
+pub record HasEnded (old new : Option (List ℕ)) : Type 0 where
+  pub ended : IsWhole old
+  pub over : LeavesNothing old new
+
 -- the shelf has the same files, one of them is open, and the number of faults didn't decrease
 pub record Serves {S : Type 0} (lends : S → List ℕ → Bool) (content : S → List ℕ → Option (List ℕ)) (begun : S → Bool) (faults : S → ℕ) (old new : S) : Type 0 where
   pub still : IsTrue (begun new)

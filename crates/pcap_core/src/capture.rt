@@ -22,10 +22,9 @@ fn read_error(fault: CaptureFault) -> ReadError
 }
 
 impl CaptureReader for Reader {
-    ghost use Rattle.std.specs.Prelude.{IsSome, IsTrue};
     ghost use Rattle.pcap_defs.specs.Reading.{capture_of};
     ghost use Rattle.pcap_defs.specs.Contents.{in_capture};
-    ghost use Rattle.pcap_core.specs.Readers.{head_of, is_live, records_given, bytes_held, captured_of, IsFresh};
+    ghost use Rattle.pcap_core.specs.Readers.{is_live, records_given, bytes_held, captured_of, IsFresh, IsReady};
     ghost use Rattle.pcap_core.specs.Left.{contents_left};
 
     ghost contents = { λ file. in_capture (capture_of file) };
@@ -42,7 +41,7 @@ impl CaptureReader for Reader {
 
     ghost fresh = { IsFresh };
 
-    ghost ready = { λ r. IsSome (head_of r) × IsTrue (is_live r) };
+    ghost ready = { IsReady };
 
     fn over(alloc: Global, window: Window) -> Reader {
         Reader::over(alloc, window)
@@ -55,21 +54,6 @@ impl CaptureReader for Reader {
     fn start<S: Shelf>(&mut self, shelf: &mut S) -> Result<(), ReadError> {
         match Reader::start(self, shelf) {
             Ok(_) => Ok(()),
-            Err(fault) => Err(read_error(fault)),
-        }
-    }
-
-    fn next<S: Shelf>(
-        &mut self,
-        shelf: &mut S,
-        into: &mut Vec<u8>,
-    ) -> Result<Option<LinkedFrame>, ReadError> {
-        match Reader::next(self, shelf, into) {
-            Ok(Some(frame)) => Ok(Some(LinkedFrame {
-                frame,
-                link: self.link(),
-            })),
-            Ok(None) => Ok(None),
             Err(fault) => Err(read_error(fault)),
         }
     }

@@ -1,12 +1,11 @@
 //! The trait of readers of captures.
-ghost use Rattle.std.specs.Prelude.{◌≡◌, ◌≤◌, ◌<◌, ◌+◌, ◌^◌, ◌↔◌, ℕ, Bool, true, false, List, Option, Some, None, length, is_some, if◌then◌else◌, IfOk, IfErr, OnOk, IfSome, IfNone, IsErrOf, IsOk, IsTrue};
+ghost use Rattle.std.specs.Prelude.{◌≡◌, ◌≤◌, ◌+◌, ◌↔◌, ℕ, Bool, true, List, Option, is_some, if◌then◌else◌, IfOk, IfErr, OnOk, IfSome, IsErrOf, IsOk, IsTrue};
 ghost use Rattle.outside_core.specs.Faults.{Rose};
-ghost use Rattle.outside_core.specs.Kept.{KeepsShelf};
-ghost use Rattle.pcap_defs.specs.Record.{most_captured, most_records};
+ghost use Rattle.pcap_defs.specs.Record.{most_records};
 ghost use Rattle.pcap_defs.specs.Contents.{Contents, FileContents, no_capture};
 ghost use Rattle.pcap_core.specs.Held.{held};
-ghost use Rattle.pcap_core.specs.Rest.{rest_of};
-ghost use Rattle.pcap_core.specs.Captures.{packet_of, fault_told, Opens, Comes, IsOneLess, IsAt, StopsAt, LeavesNone};
+ghost use Rattle.pcap_core.specs.Rest.{rest_of, Serves};
+ghost use Rattle.pcap_core.specs.Captures.{fault_told, Opens, Reads, Skips};
 
 use crate::frame::LinkedFrame;
 use crate::window::Window;
@@ -64,40 +63,7 @@ pub trait CaptureReader {
         ensures ready { OnOk result (ready self.new) }
         ensures live { IsTrue (is_live self.new) ↔ IsOk result }
 
-        ensures begun { IsTrue (S.begun shelf.new) }
-        ensures kept { KeepsShelf S.lends S.content S.faults shelf.old shelf.new }
-        ensures cause { IsErrOf result ReadError.Source → Rose (S.faults shelf.old)
-            (S.faults shelf.new) };
-
-    /// Reads the next packet and replaces the contents of `into` by its captured bytes.
-    fn next<S: Shelf>(
-        &mut self,
-        shelf: &mut S,
-        into: &mut Vec<u8>,
-    ) -> Result<Option<LinkedFrame>, ReadError>
-        requires ready { ready self.old }
-        requires begun { IsTrue (S.begun shelf.old) }
-
-        ensures comes { IfOk result (λ o. IfSome o (λ f. Comes (left self.old (S.left shelf.old))
-            (left self.new (S.left shelf.new)) (packet_of f into.new.items))) }
-        ensures ended { IfOk result (λ o. IfNone o (IsAt None (left self.old (S.left shelf.old)))) }
-        ensures over { IfOk result (λ o. IfNone o (LeavesNone (left self.old (S.left shelf.old))
-            (left self.new (S.left shelf.new)))) }
-        ensures fault { IfErr result (StopsAt (left self.old (S.left shelf.old))) }
-
-        ensures number { IfOk result (λ o. IfSome o (λ f. f.frame.number ≡ given self.old + 1)) }
-        ensures few { IfOk result (λ o. IfSome o (λ f. f.frame.number ≤ most_records)) }
-        ensures captured { IfOk result (λ o. IfSome o (λ f. f.frame.captured ≡
-            length into.new.items)) }
-        ensures short { IfOk result (λ o. IfSome o (λ f. f.frame.captured ≤ most_captured)) }
-        ensures moment { IfOk result (λ o. IfSome o (λ f. f.frame.moment < 2 ^ 62)) }
-        ensures given { IfOk result (λ o. given self.new ≡ given self.old +
-            (if is_some o then 1 else 0)) }
-        ensures ready { OnOk result (ready self.new) }
-        ensures live { IsTrue (is_live self.new) ↔ IsOk result }
-
-        ensures begun { IsTrue (S.begun shelf.new) }
-        ensures kept { KeepsShelf S.lends S.content S.faults shelf.old shelf.new }
+        ensures shelf { Serves S.lends S.content S.begun S.faults shelf.old shelf.new }
         ensures cause { IsErrOf result ReadError.Source → Rose (S.faults shelf.old)
             (S.faults shelf.new) };
 
@@ -111,27 +77,14 @@ pub trait CaptureReader {
         requires ready { ready self.old }
         requires begun { IsTrue (S.begun shelf.old) }
 
-        ensures comes { IfOk result (λ o. IfSome o (λ f. Comes (left self.old (S.left shelf.old))
-            (left self.new (S.left shelf.new))
-            (packet_of f (captured_of self.new into.new.items)))) }
-        ensures ended { IfOk result (λ o. IfNone o (IsAt None (left self.old (S.left shelf.old)))) }
-        ensures over { IfOk result (λ o. IfNone o (LeavesNone (left self.old (S.left shelf.old))
-            (left self.new (S.left shelf.new)))) }
-        ensures fault { IfErr result (StopsAt (left self.old (S.left shelf.old))) }
-
-        ensures number { IfOk result (λ o. IfSome o (λ f. f.frame.number ≡ given self.old + 1)) }
-        ensures few { IfOk result (λ o. IfSome o (λ f. f.frame.number ≤ most_records)) }
-        ensures captured { IfOk result (λ o. IfSome o (λ f. f.frame.captured ≡
-            length (captured_of self.new into.new.items))) }
-        ensures short { IfOk result (λ o. IfSome o (λ f. f.frame.captured ≤ most_captured)) }
-        ensures moment { IfOk result (λ o. IfSome o (λ f. f.frame.moment < 2 ^ 62)) }
+        ensures reads { Reads result (left self.old (S.left shelf.old))
+            (left self.new (S.left shelf.new)) (given self.old) (captured_of self.new into.new.items) }
         ensures given { IfOk result (λ o. given self.new ≡ given self.old +
             (if is_some o then 1 else 0)) }
         ensures ready { OnOk result (ready self.new) }
         ensures live { IsTrue (is_live self.new) ↔ IsOk result }
 
-        ensures begun { IsTrue (S.begun shelf.new) }
-        ensures kept { KeepsShelf S.lends S.content S.faults shelf.old shelf.new }
+        ensures shelf { Serves S.lends S.content S.begun S.faults shelf.old shelf.new }
         ensures cause { IsErrOf result ReadError.Source → Rose (S.faults shelf.old)
             (S.faults shelf.new) };
 
@@ -146,24 +99,15 @@ pub trait CaptureReader {
         requires ready { ready self.old }
         requires begun { IsTrue (S.begun shelf.old) }
 
-        ensures comes { IfOk result (λ some. some ≡ true → IsOneLess
-            (left self.old (S.left shelf.old))
-            (left self.new (S.left shelf.new))) }
-        ensures ended { IfOk result (λ some. some ≡ false → IsAt None
-            (left self.old (S.left shelf.old))) }
-        ensures over { IfOk result (λ some. some ≡ false → LeavesNone
-            (left self.old (S.left shelf.old))
-            (left self.new (S.left shelf.new))) }
-        ensures fault { IfErr result (StopsAt (left self.old (S.left shelf.old))) }
-
+        ensures skips { Skips result (left self.old (S.left shelf.old))
+            (left self.new (S.left shelf.new)) }
         ensures given { IfOk result (λ some. given self.new ≡ given self.old +
             (if some then 1 else 0)) }
         ensures few { IfOk result (λ some. some ≡ true → given self.new ≤ most_records) }
         ensures ready { OnOk result (ready self.new) }
         ensures live { IsTrue (is_live self.new) ↔ IsOk result }
 
-        ensures begun { IsTrue (S.begun shelf.new) }
-        ensures kept { KeepsShelf S.lends S.content S.faults shelf.old shelf.new }
+        ensures shelf { Serves S.lends S.content S.begun S.faults shelf.old shelf.new }
         ensures cause { IsErrOf result ReadError.Source → Rose (S.faults shelf.old)
             (S.faults shelf.new) };
 }

@@ -6,9 +6,9 @@ ghost use Rattle.pcap_defs.specs.Fault.{Fault};
 ghost use Rattle.pcap_defs.specs.Header.{IsHeaderFault};
 ghost use Rattle.pcap_defs.specs.Record.{Record, IsRecordFault, most_captured, most_records};
 ghost use Rattle.pcap_core.specs.Faults.{fault_in};
-ghost use Rattle.pcap_core.specs.Frames.{IsFrameOf};
+ghost use Rattle.pcap_core.specs.Frames.{IsFrameOf, IsNextFrame, IsInLimits};
 ghost use Rattle.pcap_core.specs.Held.{held, bytes_taken};
-ghost use Rattle.pcap_core.specs.Rest.{rest_of, IsWhole, LeavesNothing, Serves};
+ghost use Rattle.pcap_core.specs.Rest.{rest_of, HasEnded, Serves};
 ghost use Rattle.pcap_core.specs.Pieces.{TakesHeader, TakesPreface, TakesRecord};
 
 use crate::fault::CaptureFault;
@@ -55,12 +55,8 @@ fn read_record_header<S: Shelf>(
     ensures told { IfOk result (λ o. IfSome o (λ preface.
         TakesPreface head preface (rest_of (held window.old) (S.left shelf.old))
         (rest_of (held window.new) (S.left shelf.new)))) }
-    ensures few { IfOk result (λ o. IfSome o (λ preface. count < most_records)) }
-    ensures moment { IfOk result (λ o. IfSome o (λ preface. preface.moment < 2 ^ 62)) }
-    ensures short { IfOk result (λ o. IfSome o (λ preface. preface.captured ≤ most_captured)) }
-    ensures ended { IfOk result (λ o.
-        IfNone o (IsWhole (rest_of (held window.old) (S.left shelf.old)))) }
-    ensures over { IfOk result (λ o. IfNone o (LeavesNothing
+    ensures limits { IfOk result (λ o. IfSome o (IsInLimits count)) }
+    ensures ended { IfOk result (λ o. IfNone o (HasEnded
         (rest_of (held window.old) (S.left shelf.old))
         (rest_of (held window.new) (S.left shelf.new)))) }
     ensures fault { IfErr result (λ e. IfSome (fault_in e) (λ fault.
@@ -98,15 +94,9 @@ fn read_record<S: Shelf>(
         (r : Record) × IsFrameOf head.nano r frame (bytes_taken window.new into.new.items)
         × TakesRecord head.big r (rest_of (held window.old) (S.left shelf.old))
         (rest_of (held window.new) (S.left shelf.new)))) }
-    ensures number { IfOk result (λ o. IfSome o (λ frame. frame.number ≡ count + 1)) }
-    ensures few { IfOk result (λ o. IfSome o (λ frame. count < most_records)) }
-    ensures moment { IfOk result (λ o. IfSome o (λ frame. frame.moment < 2 ^ 62)) }
-    ensures captured { IfOk result (λ o. IfSome o (λ frame. frame.captured ≡
-        length (bytes_taken window.new into.new.items))) }
-    ensures short { IfOk result (λ o. IfSome o (λ frame. frame.captured ≤ most_captured)) }
-    ensures ended { IfOk result (λ o.
-        IfNone o (IsWhole (rest_of (held window.old) (S.left shelf.old)))) }
-    ensures over { IfOk result (λ o. IfNone o (LeavesNothing
+    ensures next { IfOk result (λ o. IfSome o (λ frame.
+        IsNextFrame count frame (bytes_taken window.new into.new.items))) }
+    ensures ended { IfOk result (λ o. IfNone o (HasEnded
         (rest_of (held window.old) (S.left shelf.old))
         (rest_of (held window.new) (S.left shelf.new)))) }
     ensures fault { IfErr result (λ e. IfSome (fault_in e) (λ fault.
@@ -147,9 +137,7 @@ fn pass_record<S: Shelf>(
         (rest_of (held window.new) (S.left shelf.new))) }
     ensures few { IfOk result (λ some. some ≡ true → count < most_records) }
     ensures ended { IfOk result (λ some. some ≡ false →
-        IsWhole (rest_of (held window.old) (S.left shelf.old))) }
-    ensures over { IfOk result (λ some. some ≡ false →
-        LeavesNothing (rest_of (held window.old) (S.left shelf.old))
+        HasEnded (rest_of (held window.old) (S.left shelf.old))
         (rest_of (held window.new) (S.left shelf.new))) }
     ensures fault { IfErr result (λ e. IfSome (fault_in e) (λ fault.
         IfSome (rest_of (held window.old) (S.left shelf.old)) (λ left.
@@ -188,13 +176,13 @@ impl Reader {
     ghost use Rattle.pcap_defs.specs.Header.{IsHeaderFault};
     ghost use Rattle.pcap_defs.specs.Record.{Record, IsRecordFault, most_captured, most_records};
     ghost use Rattle.pcap_core.specs.Faults.{fault_in};
-    ghost use Rattle.pcap_core.specs.Frames.{IsFrameOf};
+    ghost use Rattle.pcap_core.specs.Frames.{IsFrameOf, IsNextFrame, IsInLimits};
     ghost use Rattle.pcap_core.specs.Held.{held};
     ghost use Rattle.pcap_core.specs.Limits.{most_held};
-    ghost use Rattle.pcap_core.specs.Rest.{rest_of, IsWhole, LeavesNothing};
+    ghost use Rattle.pcap_core.specs.Rest.{rest_of, Serves};
     ghost use Rattle.pcap_core.specs.Pieces.{TakesHeader, TakesRecord};
     ghost use Rattle.pcap_core.specs.Left.{head_read};
-    ghost use Rattle.pcap_core.specs.Readers.{head_of, is_big, is_nano, records_given, bytes_held, captured_of, is_live, IsFresh, rest_left};
+    ghost use Rattle.pcap_core.specs.Readers.{head_of, is_big, is_nano, records_given, bytes_held, captured_of, is_live, IsFresh, IsReady, rest_left, StopsRightly, Counts};
 
     /// Returns a reader without buffered bytes.
     pub fn new(alloc: Global) -> Reader
@@ -254,8 +242,7 @@ impl Reader {
             (fault : Fault) → IsHeaderFault file fault → IsErr result) }
         ensures live { IsTrue (is_live self.new) ↔ IsOk result }
 
-        ensures begun { IsTrue (S.begun shelf.new) }
-        ensures kept { KeepsShelf S.lends S.content S.faults shelf.old shelf.new }
+        ensures shelf { Serves S.lends S.content S.begun S.faults shelf.old shelf.new }
         ensures cause { IsErrOf result CaptureFault.ReadFault →
             Rose (S.faults shelf.old) (S.faults shelf.new) }
     {
@@ -280,8 +267,7 @@ impl Reader {
         shelf: &mut S,
         into: &mut Vec<u8>,
     ) -> Result<Option<Frame>, CaptureFault>
-        requires started { IsSome (head_of self.old) }
-        requires live { IsTrue (is_live self.old) }
+        requires ready { IsReady self.old }
         requires begun { IsTrue (S.begun shelf.old) }
 
         // The remaining bytes were the spelling of a record, and then the bytes left now.
@@ -289,36 +275,15 @@ impl Reader {
             (r : Record) × IsFrameOf (is_nano self.old) r frame (captured_of self.new into.new.items)
             × TakesRecord (is_big self.old) r (rest_left self.old (S.left shelf.old))
             (rest_left self.new (S.left shelf.new)))) }
-        ensures number { IfOk result (λ o. IfSome o (λ frame. frame.number ≡
-            records_given self.old + 1)) }
-        ensures few { IfOk result (λ o. IfSome o (λ frame. frame.number ≤ most_records)) }
-        ensures captured { IfOk result (λ o. IfSome o (λ frame. frame.captured ≡
-            length (captured_of self.new into.new.items))) }
-        ensures short { IfOk result (λ o. IfSome o (λ frame. frame.captured ≤ most_captured)) }
-        ensures moment { IfOk result (λ o. IfSome o (λ frame. frame.moment < 2 ^ 62)) }
+        ensures next { IfOk result (λ o. IfSome o (λ frame.
+            IsNextFrame (records_given self.old) frame (captured_of self.new into.new.items))) }
 
         // There is no record exactly if nothing is left, and then nothing is left for a later call.
-        ensures ended { IfOk result (λ o.
-            IfNone o (IsWhole (rest_left self.old (S.left shelf.old)))) }
-        ensures over { IfOk result (λ o. IfNone o (LeavesNothing
-            (rest_left self.old (S.left shelf.old)) (rest_left self.new (S.left shelf.new)))) }
-        ensures ends { IfSome (rest_left self.old (S.left shelf.old)) (λ left.
-            left ≡ [] → MatchResult result (λ o. o ≡ None) (λ e. fault_in e ≡ None)) }
-
         // A returned fault is that of the remaining bytes. If they have one, an error is returned.
-        ensures fault { IfErr result (λ e. IfSome (fault_in e) (λ fault.
-            IfSome (rest_left self.old (S.left shelf.old)) (λ left.
-            IsRecordFault (is_big self.old) (records_given self.old) left fault))) }
-        ensures refused { IfSome (rest_left self.old (S.left shelf.old)) (λ left.
-            (fault : Fault) → IsRecordFault (is_big self.old) (records_given self.old) left fault → IsErr result) }
-        ensures live { IsTrue (is_live self.new) ↔ IsOk result }
-
-        ensures head { head_of self.new ≡ head_of self.old }
-        ensures given { IfOk result (λ o.
-            records_given self.new ≡ records_given self.old + (if is_some o then 1 else 0)) }
-        ensures bounded { length (bytes_held self.new) ≤ most_held }
-        ensures begun { IsTrue (S.begun shelf.new) }
-        ensures kept { KeepsShelf S.lends S.content S.faults shelf.old shelf.new }
+        ensures stops { StopsRightly is_some (is_big self.old) (records_given self.old) result
+            (rest_left self.old (S.left shelf.old)) (rest_left self.new (S.left shelf.new)) }
+        ensures counts { Counts is_some result self.old self.new }
+        ensures shelf { Serves S.lends S.content S.begun S.faults shelf.old shelf.new }
         ensures cause { IsErrOf result CaptureFault.ReadFault →
             Rose (S.faults shelf.old) (S.faults shelf.new) }
     {
@@ -353,8 +318,7 @@ impl Reader {
         shelf: &mut S,
         into: &mut Vec<u8>,
     ) -> Result<Option<Frame>, CaptureFault>
-        requires started { IsSome (head_of self.old) }
-        requires live { IsTrue (is_live self.old) }
+        requires ready { IsReady self.old }
         requires begun { IsTrue (S.begun shelf.old) }
 
         // The remaining bytes were the spelling of a record, and then the bytes left now.
@@ -362,36 +326,15 @@ impl Reader {
             (r : Record) × IsFrameOf (is_nano self.old) r frame into.new.items
             × TakesRecord (is_big self.old) r (rest_left self.old (S.left shelf.old))
             (rest_left self.new (S.left shelf.new)))) }
-        ensures number { IfOk result (λ o. IfSome o (λ frame. frame.number ≡
-            records_given self.old + 1)) }
-        ensures few { IfOk result (λ o. IfSome o (λ frame. frame.number ≤ most_records)) }
-        ensures captured { IfOk result (λ o. IfSome o (λ frame. frame.captured ≡
-            length into.new.items)) }
-        ensures short { IfOk result (λ o. IfSome o (λ frame. frame.captured ≤ most_captured)) }
-        ensures moment { IfOk result (λ o. IfSome o (λ frame. frame.moment < 2 ^ 62)) }
+        ensures next { IfOk result (λ o. IfSome o (λ frame.
+            IsNextFrame (records_given self.old) frame into.new.items)) }
 
         // There is no record exactly if nothing is left, and then nothing is left for a later call.
-        ensures ended { IfOk result (λ o.
-            IfNone o (IsWhole (rest_left self.old (S.left shelf.old)))) }
-        ensures over { IfOk result (λ o. IfNone o (LeavesNothing
-            (rest_left self.old (S.left shelf.old)) (rest_left self.new (S.left shelf.new)))) }
-        ensures ends { IfSome (rest_left self.old (S.left shelf.old)) (λ left.
-            left ≡ [] → MatchResult result (λ o. o ≡ None) (λ e. fault_in e ≡ None)) }
-
         // A returned fault is that of the remaining bytes. If they have one, an error is returned.
-        ensures fault { IfErr result (λ e. IfSome (fault_in e) (λ fault.
-            IfSome (rest_left self.old (S.left shelf.old)) (λ left.
-            IsRecordFault (is_big self.old) (records_given self.old) left fault))) }
-        ensures refused { IfSome (rest_left self.old (S.left shelf.old)) (λ left.
-            (fault : Fault) → IsRecordFault (is_big self.old) (records_given self.old) left fault → IsErr result) }
-        ensures live { IsTrue (is_live self.new) ↔ IsOk result }
-
-        ensures head { head_of self.new ≡ head_of self.old }
-        ensures given { IfOk result (λ o.
-            records_given self.new ≡ records_given self.old + (if is_some o then 1 else 0)) }
-        ensures bounded { length (bytes_held self.new) ≤ most_held }
-        ensures begun { IsTrue (S.begun shelf.new) }
-        ensures kept { KeepsShelf S.lends S.content S.faults shelf.old shelf.new }
+        ensures stops { StopsRightly is_some (is_big self.old) (records_given self.old) result
+            (rest_left self.old (S.left shelf.old)) (rest_left self.new (S.left shelf.new)) }
+        ensures counts { Counts is_some result self.old self.new }
+        ensures shelf { Serves S.lends S.content S.begun S.faults shelf.old shelf.new }
         ensures cause { IsErrOf result CaptureFault.ReadFault →
             Rose (S.faults shelf.old) (S.faults shelf.new) }
     {
@@ -412,8 +355,7 @@ impl Reader {
         shelf: &mut S,
         scratch: &mut Vec<u8>,
     ) -> Result<bool, CaptureFault>
-        requires started { IsSome (head_of self.old) }
-        requires live { IsTrue (is_live self.old) }
+        requires ready { IsReady self.old }
         requires begun { IsTrue (S.begun shelf.old) }
 
         // The remaining bytes were the spelling of a record, and then the bytes left now.
@@ -423,27 +365,11 @@ impl Reader {
         ensures few { IfOk result (λ some. some ≡ true → records_given self.new ≤ most_records) }
 
         // There is no record exactly if nothing is left, and then nothing is left for a later call.
-        ensures ended { IfOk result (λ some. some ≡ false → IsWhole
-            (rest_left self.old (S.left shelf.old))) }
-        ensures over { IfOk result (λ some. some ≡ false → LeavesNothing
-            (rest_left self.old (S.left shelf.old)) (rest_left self.new (S.left shelf.new))) }
-        ensures ends { IfSome (rest_left self.old (S.left shelf.old)) (λ left.
-            left ≡ [] → MatchResult result (λ some. some ≡ false) (λ e. fault_in e ≡ None)) }
-
         // A returned fault is that of the remaining bytes. If they have one, an error is returned.
-        ensures fault { IfErr result (λ e. IfSome (fault_in e) (λ fault.
-            IfSome (rest_left self.old (S.left shelf.old)) (λ left.
-            IsRecordFault (is_big self.old) (records_given self.old) left fault))) }
-        ensures refused { IfSome (rest_left self.old (S.left shelf.old)) (λ left.
-            (fault : Fault) → IsRecordFault (is_big self.old) (records_given self.old) left fault → IsErr result) }
-        ensures live { IsTrue (is_live self.new) ↔ IsOk result }
-
-        ensures head { head_of self.new ≡ head_of self.old }
-        ensures given { IfOk result (λ some.
-            records_given self.new ≡ records_given self.old + (if some then 1 else 0)) }
-        ensures bounded { length (bytes_held self.new) ≤ most_held }
-        ensures begun { IsTrue (S.begun shelf.new) }
-        ensures kept { KeepsShelf S.lends S.content S.faults shelf.old shelf.new }
+        ensures stops { StopsRightly (λ some. some) (is_big self.old) (records_given self.old)
+            result (rest_left self.old (S.left shelf.old)) (rest_left self.new (S.left shelf.new)) }
+        ensures counts { Counts (λ some. some) result self.old self.new }
+        ensures shelf { Serves S.lends S.content S.begun S.faults shelf.old shelf.new }
         ensures cause { IsErrOf result CaptureFault.ReadFault →
             Rose (S.faults shelf.old) (S.faults shelf.new) }
     {

@@ -1,9 +1,9 @@
 //! The sixteen bytes of a record before its captured bytes.
 ghost use Rattle.std.specs.Prelude.{◌≡◌, ◌≤◌, ◌<◌, ◌+◌, ◌*◌, ◌^◌, length, IfOk, IfErr, IsSomeAnd};
 ghost use Rattle.pcap_defs.specs.Number.{long_at};
-ghost use Rattle.pcap_defs.specs.Record.{captured_len, moment_at, most_captured, most_records};
+ghost use Rattle.pcap_defs.specs.Record.{moment_at};
 ghost use Rattle.pcap_core.specs.Faults.{fault_in};
-ghost use Rattle.pcap_core.specs.Frames.{IsFrontFault};
+ghost use Rattle.pcap_core.specs.Frames.{IsFrontFault, IsPreface, IsInLimits};
 
 use crate::fault::CaptureFault;
 use crate::number::read_long;
@@ -39,14 +39,8 @@ fn moment(head: Head, bytes: &[u8]) -> u64
 pub fn preface_in(head: Head, count: u32, bytes: &[u8]) -> Result<RecordHeader, CaptureFault>
     requires some { 0 < length bytes.now }
     requires bound { length bytes.now ≤ 16 }
-    ensures whole { IfOk result (λ p. length bytes.now ≡ 16) }
-    ensures few { IfOk result (λ p. count < most_records) }
-    ensures moment { IfOk result (λ p.
-        p.moment ≡ moment_at head.nano (long_at head.big 0 bytes.now) (long_at head.big 4 bytes.now)) }
-    ensures moment_bound { IfOk result (λ p. p.moment < 2 ^ 62) }
-    ensures captured { IfOk result (λ p. p.captured ≡ captured_len head.big bytes.now) }
-    ensures short { IfOk result (λ p. p.captured ≤ most_captured) }
-    ensures len { IfOk result (λ p. p.len ≡ long_at head.big 12 bytes.now) }
+    ensures values { IfOk result (λ p. IsPreface head p bytes.now) }
+    ensures limits { IfOk result (IsInLimits count) }
     ensures fault { IfErr result (λ e. IsSomeAnd (fault_in e)
         (IsFrontFault head.big count bytes.now)) }
 {

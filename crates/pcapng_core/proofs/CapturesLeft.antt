@@ -1,10 +1,12 @@
 -- The contents left after each result of a reader, in the terms shared by all capture formats.
-use Rattle.pcapng_core.proofs.Prelude.{◌≡◌, ℕ, List, sym, ◌∙◌, ap, Option, Some, subst, None, IfSome, refl, ◌≢◌, [], true, false, ◌∷◌, IfNone, is_some, LeavesNothing, CapturedPacket, reads_faults, goes_block_by_block, Carried, at_start, BlockFault, broken, front_of, Reading, at_front, behind, reading_of, ng_capture_of, fault_in, read_error_as, GoesOn, IsOver, TakesBlock, NgFault, Interfaces, NgVersion, PacketLength, BlockCut, BlockEnd, BlockLength, NoInterface, NoMemory, OrderMagic, ReadFault, TooManyBlocks}
+use Rattle.pcapng_core.proofs.Prelude.{◌≡◌, Ok, ℕ, List, sym, ◌∙◌, ap, Option, Some, subst, None, IfSome, refl, ◌≢◌, [], ◌∷◌, IfNone, is_some, LeavesNothing, CapturedPacket, reads_faults, goes_block_by_block, Carried, at_start, BlockFault, broken, front_of, Reading, at_front, behind, reading_of, ng_capture_of, fault_in, read_error_as, GoesOn, IsOver, TakesBlock, NgFault, Interfaces, NgVersion, PacketLength, BlockCut, BlockEnd, BlockLength, NoInterface, NoMemory, OrderMagic, ReadFault, TooManyBlocks}
 use Rattle.std.specs.Prelude.{option_map}
 use Rattle.std.proofs.lemmas.Option.{IfSome_then}
 use Rattle.pcap_defs.specs.Contents.{FaultAt, no_capture}
 use Rattle.pcap_core.specs.declared.frame.LinkedFrame.{LinkedFrame}
-use Rattle.pcap_core.specs.Captures.{packet_of, fault_told, Opens, Comes, IsOneLess, IsAt, LeavesNone}
+use Rattle.pcap_core.specs.Captures.{packet_of, fault_told, Opens, Comes, IsAt, LeavesNone, Reads, Skips}
+use Rattle.pcap_core.specs.Frames.{IsNextFrame}
+use Rattle.pcapng_core.specs.Readers.{HasNoPacket}
 use Rattle.pcapng_defs.specs.NgContents.{block_fault_at, contents_read, behind_front, in_ng_capture}
 use Rattle.pcapng_core.specs.Left.{contents_in}
 
@@ -65,31 +67,14 @@ leaves c after (Some old) new none some =
     ap (option_map (contents_in after)) none
     ∙ ap (λ (r : Reading). Some (contents_read r)) (goes_block_by_block after [] ∙ ap (at_front reading_of after) ((reads_faults.ends after []).0 (refl, some)))
 
--- the same for a result that is a packet or none
-pub comes-at : (c after : Carried) (given : Option LinkedFrame) (bytes : List ℕ) (old new : Option (List ℕ)) → IfSome given (λ f. GoesOn c (packet_of f bytes ∷ []) after old new)
-    → IfSome given (λ f. Comes (option_map (contents_in c) old) (option_map (contents_in after) new) (packet_of f bytes))
-comes-at c after given bytes old new goes = IfSome_then given goes (λ f goes. comes c after (packet_of f bytes) old new goes)
+-- the result of a call that reads the next packet, if that succeeds
+pub reads : (c after : Carried) (n : ℕ) (given : Option LinkedFrame) (bytes : List ℕ) (old new : Option (List ℕ)) → IfSome given (λ f. GoesOn c (packet_of f bytes ∷ []) after old new)
+    → IfSome given (λ f. IsNextFrame n f.frame bytes) → IfNone given (HasNoPacket c after old new) → Reads (Ok given) (option_map (contents_in c) old) (option_map (contents_in after) new) n bytes
+reads c after n None bytes old new goes next none = (ends c old none.ended, leaves c after old new none.over none.came)
+reads c after n (Some f) bytes old new goes next none = (comes c after (packet_of f bytes) old new goes, next)
 
-pub ends-at : (c : Carried) (given : Option LinkedFrame) (old : Option (List ℕ)) → IfNone given (IfSome old (IsOver c None)) → IfNone given (IsAt None (option_map (contents_in c) old))
-ends-at c None old over = ends c old over
-ends-at c (Some f) old over = tt
-
-pub leaves-at : (c after : Carried) (given : Option LinkedFrame) (old new : Option (List ℕ)) → IfNone given (LeavesNothing old new) → IfNone given (after.blocks ≢ 0)
-    → IfNone given (LeavesNone (option_map (contents_in c) old) (option_map (contents_in after) new))
-leaves-at c after None old new none some = leaves c after old new none some
-leaves-at c after (Some f) old new none some = tt
-
--- the same for a result that says whether there was a packet
-pub one-less-at : (c after : Carried) (given : Option LinkedFrame) (bytes : List ℕ) (old new : Option (List ℕ)) → IfSome given (λ f. GoesOn c (packet_of f bytes ∷ []) after old new)
-    → is_some given ≡ true → IsOneLess (option_map (contents_in c) old) (option_map (contents_in after) new)
-one-less-at c after None bytes old new goes some = absurd (cc)
-one-less-at c after (Some f) bytes old new goes some = (packet_of f bytes, comes c after (packet_of f bytes) old new goes)
-
-pub ends-none : (c : Carried) (given : Option LinkedFrame) (old : Option (List ℕ)) → IfNone given (IfSome old (IsOver c None)) → is_some given ≡ false → IsAt None (option_map (contents_in c) old)
-ends-none c None old over none = ends c old over
-ends-none c (Some f) old over none = absurd (cc)
-
-pub leaves-none : (c after : Carried) (given : Option LinkedFrame) (old new : Option (List ℕ)) → IfNone given (LeavesNothing old new) → IfNone given (after.blocks ≢ 0)
-    → is_some given ≡ false → LeavesNone (option_map (contents_in c) old) (option_map (contents_in after) new)
-leaves-none c after None old new nothing came none = leaves c after old new nothing came
-leaves-none c after (Some f) old new nothing came none = absurd (cc)
+-- the same for a call that skips it
+pub skips : (c after : Carried) (given : Option LinkedFrame) (bytes : List ℕ) (old new : Option (List ℕ)) → IfSome given (λ f. GoesOn c (packet_of f bytes ∷ []) after old new)
+    → IfNone given (HasNoPacket c after old new) → Skips (Ok (is_some given)) (option_map (contents_in c) old) (option_map (contents_in after) new)
+skips c after None bytes old new goes none = (ends c old none.ended, leaves c after old new none.over none.came)
+skips c after (Some f) bytes old new goes none = (packet_of f bytes, comes c after (packet_of f bytes) old new goes)

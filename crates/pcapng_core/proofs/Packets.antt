@@ -1,5 +1,5 @@
 -- The reading up to the next packet.
-use Rattle.pcapng_core.proofs.Prelude.{◌≡◌, ℕ, List, ◌∙◌, ap, Option, Some, None, IfSome, ◌≢◌, [], IsWhole, CapturedPacket, reads_faults, goes_block_by_block, Carried, BlockFault, broken, front_of, Reading, at_front, behind, reading_of, ended, packets_in, GoesOn, IsOver, TakesBlock}
+use Rattle.pcapng_core.proofs.Prelude.{◌≡◌, ℕ, List, ◌∙◌, ap, Option, Some, None, IfSome, ◌≢◌, [], IsWhole, LeavesNothing, CapturedPacket, reads_faults, goes_block_by_block, Carried, BlockFault, broken, front_of, Reading, at_front, behind, reading_of, ended, packets_in, GoesOn, IsOver, TakesBlock}
 
 -- after one more block
 pub goes-more : (c mid_c after : Carried) (packet : Option CapturedPacket) (old mid new : Option (List ℕ)) → GoesOn c [] mid_c old mid → TakesBlock mid_c packet after mid new → GoesOn c (packets_in packet) after old new
@@ -19,6 +19,11 @@ goes-over c mid_c (Some old) None goes whole some = absurd goes
 goes-over c mid_c (Some old) (Some mid) goes whole some =
     over-as c mid_c None old
     (goes ∙ ap (behind []) (goes_block_by_block mid_c mid ∙ ap (at_front reading_of mid_c) ((reads_faults.ends mid_c mid).0 (whole, some))))
+
+pub goes-leaves : (c mid_c : Carried) (old mid new : Option (List ℕ)) → GoesOn c [] mid_c old mid → LeavesNothing mid new → LeavesNothing old new
+goes-leaves c mid_c None mid new goes nothing = tt
+goes-leaves c mid_c (Some old) None new goes nothing = absurd goes
+goes-leaves c mid_c (Some old) (Some mid) new goes nothing = nothing
 
 -- if there is a fault
 pub goes-broken : (c mid_c : Carried) (fault : BlockFault) (old mid : Option (List ℕ)) → GoesOn c [] mid_c old mid → IfSome mid (λ left. front_of mid_c left ≡ broken fault) → IfSome old (IsOver c (Some fault))

@@ -1,10 +1,10 @@
 -- The state of a reader of pcapng captures.
-use Rattle.std.specs.Prelude.{◌≡◌, ◌≤◌, ℕ, Bool, true, Option, Some, None, List, [], ⊤}
+use Rattle.std.specs.Prelude.{◌≡◌, ◌≢◌, ◌≤◌, ℕ, Bool, true, Option, Some, None, List, [], IfSome, ⊤}
 use Rattle.rank_defs.specs.Programs.{max_rank}
 use Rattle.pcap_defs.specs.Record.{most_captured}
 use Rattle.pcapng_core.specs.declared.reader.Block.{Block}
 use Rattle.pcapng_core.specs.declared.reader.Block.TheVariants as block
-use Rattle.pcap_core.specs.Rest.{rest_of}
+use Rattle.pcap_core.specs.Rest.{rest_of, LeavesNothing}
 use Rattle.pcapng_defs.specs.Fault.{BlockFault}
 use Rattle.pcap_defs.specs.Packet.{CapturedPacket}
 use Rattle.pcapng_defs.specs.Block.{Carried, at_start}
@@ -76,3 +76,9 @@ GoesOn c packets after (Some old) (Some new) = reading_of c old ≡ behind packe
 pub record IsOver (c : Carried) (fault : Option BlockFault) (rest : List ℕ) : Type 0 where
   pub none : (reading_of c rest).packets ≡ []
   pub ends : (reading_of c rest).fault ≡ fault
+
+-- At least one block was read. No packet and no fault was left, and nothing is left now.
+pub record HasNoPacket (c after : Carried) (old new : Option (List ℕ)) : Type 0 where
+  pub ended : IfSome old (IsOver c None)
+  pub over : LeavesNothing old new
+  pub came : after.blocks ≢ 0

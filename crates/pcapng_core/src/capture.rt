@@ -56,7 +56,7 @@ impl CaptureReader for NgReader {
         }
     }
 
-    fn next<S: Shelf>(
+    fn next_in_place<S: Shelf>(
         &mut self,
         shelf: &mut S,
         into: &mut Vec<u8>,
@@ -65,14 +65,6 @@ impl CaptureReader for NgReader {
             Ok(given) => Ok(given),
             Err(fault) => Err(read_error(fault)),
         }
-    }
-
-    fn next_in_place<S: Shelf>(
-        &mut self,
-        shelf: &mut S,
-        into: &mut Vec<u8>,
-    ) -> Result<Option<LinkedFrame>, ReadError> {
-        CaptureReader::next(self, shelf, into)
     }
 
     #[inline(always)]

@@ -1,7 +1,7 @@
 //! Reads a pcapng capture packet by packet.
 ghost use Rattle.std.specs.Prelude.{◌≡◌, ◌≢◌, ◌≤◌, ◌<◌, ◌+◌, ◌-◌, ℕ, true, List, Option, Some, None, [], ◌++◌, length, vec_len, IfOk, IfErr, OnOk, OnErr, IfSome, IfNone, IsErrOf, IsTrue};
 ghost use Rattle.outside_core.specs.Faults.{Rose};
-ghost use Rattle.pcap_core.specs.Rest.{rest_of, TakesFront, IsWhole, LeavesNothing, Serves};
+ghost use Rattle.pcap_core.specs.Rest.{rest_of, TakesFront, HasEnded, Serves};
 ghost use Rattle.pcapng_defs.specs.Fault.{block_cut};
 ghost use Rattle.pcapng_defs.specs.NgCapture.{front_of, broken, fits_kind, block_len, most_blocks};
 ghost use Rattle.pcapng_core.specs.Faults.{fault_in};
@@ -48,9 +48,7 @@ fn read_start<S: Shelf>(
     ensures taken { IfOk result (λ o. TakesFront (rest_of (held window.old) (S.left shelf.old))
         (rest_of (held window.new) (S.left shelf.new)) front.new.items) }
     ensures twelve { IfOk result (λ o. IfSome o (λ s. length front.new.items ≡ block_len)) }
-    ensures ended { IfOk result (λ o. IfNone o (IsWhole (rest_of (held window.old)
-        (S.left shelf.old)))) }
-    ensures over { IfOk result (λ o. IfNone o (LeavesNothing
+    ensures ended { IfOk result (λ o. IfNone o (HasEnded
         (rest_of (held window.old) (S.left shelf.old))
         (rest_of (held window.new) (S.left shelf.new)))) }
     ensures came { IfOk result (λ o. IfNone o ((carried_of carry.now).blocks ≢ 0)) }
@@ -218,18 +216,16 @@ pub struct NgReader {
 impl NgReader {
     ghost use Rattle.std.specs.Prelude.{◌≡◌, ◌≢◌, ◌≤◌, ◌<◌, ◌+◌, ◌↔◌, ◌∷◌, ℕ, List, Option, Some, None, [], length, IfOk, IfErr, OnOk, OnErr, IfSome, IfNone, IsErrOf, IsErr, IsOk, IsTrue, is_some, if◌then◌else◌};
     ghost use Rattle.outside_core.specs.Faults.{Rose};
-    ghost use Rattle.outside_core.specs.Kept.{KeepsShelf};
-    ghost use Rattle.rank_defs.specs.Programs.{max_rank};
     ghost use Rattle.pcap_core.specs.Captures.{packet_of};
+    ghost use Rattle.pcap_core.specs.Frames.{IsNextFrame};
     ghost use Rattle.pcap_core.specs.Held.{held};
     ghost use Rattle.pcap_core.specs.Limits.{most_held};
-    ghost use Rattle.pcap_core.specs.Rest.{IsWhole, LeavesNothing, Serves};
-    ghost use Rattle.pcap_defs.specs.Record.{most_captured};
+    ghost use Rattle.pcap_core.specs.Rest.{HasEnded, Serves};
     ghost use Rattle.pcapng_defs.specs.Fault.{BlockFault};
     ghost use Rattle.pcapng_defs.specs.Block.{at_start};
-    ghost use Rattle.pcapng_defs.specs.NgCapture.{front_of, broken, most_blocks};
+    ghost use Rattle.pcapng_defs.specs.NgCapture.{front_of, broken};
     ghost use Rattle.pcapng_core.specs.Faults.{fault_in};
-    ghost use Rattle.pcapng_core.specs.Readers.{carry_of, packets_given, bytes_held, is_live, IsFresh, rest_left, TakesBlock, GoesOn, IsOver, block_packet, IsBoundedBlock, IsBoundedPacket};
+    ghost use Rattle.pcapng_core.specs.Readers.{carry_of, packets_given, bytes_held, is_live, IsFresh, rest_left, TakesBlock, GoesOn, IsOver, HasNoPacket, block_packet, IsBoundedBlock, IsBoundedPacket};
     ghost use Rattle.pcapng_core.specs.Bodies.{packet_told};
 
     /// Returns a reader without buffered bytes.
@@ -271,9 +267,7 @@ impl NgReader {
         ensures counted { IfOk result (λ block. block ≢ Block.End →
             (carry_of self.new).blocks ≡ (carry_of self.old).blocks + 1) }
         ensures bounded { IfOk result (λ block. IsBoundedBlock block (length into.new.items)) }
-        ensures ended { IfOk result (λ block. block ≡ Block.End →
-            IsWhole (rest_left self.old (S.left shelf.old))) }
-        ensures over { IfOk result (λ block. block ≡ Block.End → LeavesNothing
+        ensures ended { IfOk result (λ block. block ≡ Block.End → HasEnded
             (rest_left self.old (S.left shelf.old)) (rest_left self.new (S.left shelf.new))) }
         ensures same { IfOk result (λ block. block ≡ Block.End →
             (carry_of self.new ≡ carry_of self.old) × ((carry_of self.old).blocks ≢ 0)) }
@@ -320,13 +314,10 @@ impl NgReader {
             (carry_of self.new).blocks)) }
         ensures bounded { IfOk result (λ o. IfSome o (λ packet.
             IsBoundedPacket packet (length into.new.items))) }
-        ensures ended { IfOk result (λ o. IfNone o (IfSome (rest_left self.old (S.left shelf.old))
-            (IsOver (carry_of self.old) None))) }
-        ensures over { IfOk result (λ o. IfNone o (LeavesNothing
-            (rest_left self.old (S.left shelf.old)) (rest_left self.new (S.left shelf.new)))) }
+        ensures ended { IfOk result (λ o. IfNone o (HasNoPacket
+            (carry_of self.old) (carry_of self.new) (rest_left self.old (S.left shelf.old)) (rest_left self.new (S.left shelf.new)))) }
         ensures stays { IfOk result (λ o. IfNone o ((carry_of self.old).blocks ≤
             (carry_of self.new).blocks)) }
-        ensures came { IfOk result (λ o. IfNone o ((carry_of self.new).blocks ≢ 0)) }
         ensures fault { IfErr result (λ e. IfSome (fault_in e) (λ fault.
             IfSome (rest_left self.old (S.left shelf.old)) (IsOver (carry_of self.old) (Some fault)))) }
         ensures given { packets_given self.new ≡ packets_given self.old }
@@ -362,8 +353,7 @@ impl NgReader {
             front_of at_start file ≡ broken fault))) }
         ensures live { IsTrue (is_live self.new) ↔ IsOk result }
 
-        ensures begun { IsTrue (S.begun shelf.new) }
-        ensures kept { KeepsShelf S.lends S.content S.faults shelf.old shelf.new }
+        ensures shelf { Serves S.lends S.content S.begun S.faults shelf.old shelf.new }
         ensures cause { IsErrOf result NgFault.ReadFault → Rose (S.faults shelf.old)
             (S.faults shelf.new) }
     {
@@ -391,21 +381,13 @@ impl NgReader {
         ensures found { IfOk result (λ o. IfSome o (λ f. GoesOn (carry_of self.old)
             (packet_of f into.new.items ∷ [])
             (carry_of self.new) (rest_left self.old (S.left shelf.old)) (rest_left self.new (S.left shelf.new)))) }
-        ensures number { IfOk result (λ o. IfSome o (λ f. f.frame.number ≡ packets_given self.old +
-            1)) }
-        ensures few { IfOk result (λ o. IfSome o (λ f. f.frame.number ≤ most_blocks)) }
-        ensures captured { IfOk result (λ o. IfSome o (λ f. f.frame.captured ≡
-            length into.new.items)) }
-        ensures short { IfOk result (λ o. IfSome o (λ f. f.frame.captured ≤ most_captured)) }
-        ensures moment { IfOk result (λ o. IfSome o (λ f. f.frame.moment ≤ max_rank)) }
+        ensures next { IfOk result (λ o. IfSome o (λ f.
+            IsNextFrame (packets_given self.old) f.frame into.new.items)) }
 
         // There is no packet only if no packet and no fault is left. Then nothing is left for a
         // later call.
-        ensures ended { IfOk result (λ o. IfNone o (IfSome (rest_left self.old (S.left shelf.old))
-            (IsOver (carry_of self.old) None))) }
-        ensures over { IfOk result (λ o. IfNone o (LeavesNothing
-            (rest_left self.old (S.left shelf.old)) (rest_left self.new (S.left shelf.new)))) }
-        ensures came { IfOk result (λ o. IfNone o ((carry_of self.new).blocks ≢ 0)) }
+        ensures ended { IfOk result (λ o. IfNone o (HasNoPacket
+            (carry_of self.old) (carry_of self.new) (rest_left self.old (S.left shelf.old)) (rest_left self.new (S.left shelf.new)))) }
 
         // A fault of the file is returned only if no packet is left before it.
         ensures fault { IfErr result (λ e. IfSome (fault_in e) (λ fault.
@@ -415,8 +397,7 @@ impl NgReader {
         ensures given { IfOk result (λ o.
             packets_given self.new ≡ packets_given self.old + (if is_some o then 1 else 0)) }
         ensures bounded { length (bytes_held self.new) ≤ most_held }
-        ensures begun { IsTrue (S.begun shelf.new) }
-        ensures kept { KeepsShelf S.lends S.content S.faults shelf.old shelf.new }
+        ensures shelf { Serves S.lends S.content S.begun S.faults shelf.old shelf.new }
         ensures cause { IsErrOf result NgFault.ReadFault → Rose (S.faults shelf.old)
             (S.faults shelf.new) }
     {

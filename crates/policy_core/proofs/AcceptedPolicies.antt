@@ -1,5 +1,5 @@
 -- A policy that accepted statements give can be run.
-use Rattle.policy_core.proofs.Prelude.{List, ◌≡◌, ℕ, ap, sym, subst, [], arith, length, ◌<◌, ◌∷◌, refl, suc, true, Some, zero, None, Option, ◌≤◌, false, true≢false, Any, not, IsTrue, unwrap_or, ◌&&◌, ◌^◌, leb-true, nat_le, and_parts, recursion_from_All, AllByRecursion, IsAccepted, AreMarksInRange, HasFewChildren, HasLimitsAtLeaves, HaveFewChildren, HaveLimitsAtLeaves, IsClassReady, IsNodeReady, Node, node_at, node_below, AreAccepted, has_catch_all_behind, Name, programs, IsTreeIn, Declared, Resolved, classes_in, AreTreesIn, IsInnerOf, IsLeafOf, IsResolved, names_of, AreClassesOf, IsNodeOf, marks_of, Entry, Sense, node, class, version, each, keep, pop, push, transaction, IsName, IsValid, AreValidAttributes, IsValidAttribute, Attrs, Builtin, builtins, IsShaped, max_prio, max_slack, max_weight, most_name, Tree, Trees, inner, more, none, Address, nodes, depth, nodes_below, most_levels, count_of, AreValid}
+use Rattle.policy_core.proofs.Prelude.{List, ◌≡◌, ℕ, ap, sym, subst, [], arith, length, ◌<◌, ◌∷◌, refl, suc, true, Some, zero, None, Option, ◌≤◌, false, true≢false, Any, not, IsTrue, unwrap_or, ◌&&◌, ◌^◌, leb-true, nat_le, and_parts, recursion_from_All, AllByRecursion, IsAccepted, AreMarksInRange, HasFewChildren, HasLimitsAtLeaves, HaveFewChildren, HaveLimitsAtLeaves, IsClassReady, IsNodeReady, Node, node_at, node_below, AreAccepted, has_catch_all_behind, Name, programs, IsTreeIn, Declared, Resolved, classes_in, AreTreesIn, IsInnerOf, IsLeafOf, IsResolved, names_of, AreClassesOf, IsNodeOf, marks_of, Entry, Sense, node, class, filtered, version, each, keep, pop, push, transaction, IsName, IsValid, AreValidAttributes, IsValidAttribute, Attrs, Builtin, builtins, IsShaped, max_prio, max_slack, max_weight, most_name, Tree, Trees, inner, more, none, Address, nodes, depth, nodes_below, most_levels, count_of, AreValid}
 use Rattle.tree_defs.specs.Tree.{leaf as leaf_of}
 use Rattle.rank_defs.specs.Checks.{IsChecked}
 use Rattle.rank_defs.proofs.Table.{builtins-checked}
@@ -67,6 +67,7 @@ leaf-ready es n (each m s) accepted shaped valid said = absurd said
 leaf-ready es n (push m t) accepted shaped valid said = absurd said
 leaf-ready es n (pop m t) accepted shaped valid said = absurd said
 leaf-ready es n (class m a cs) accepted shaped valid said = absurd said
+leaf-ready es n (filtered m a cs) accepted shaped valid said = absurd said
 leaf-ready es n (leaf m u a l ns) accepted shaped valid said = node-ready es n m u a l accepted shaped valid.0 valid.2 said
 leaf-ready es n (node m u a ns) accepted shaped valid said = absurd said
 
@@ -78,6 +79,7 @@ inner-ready es n names (each m s) accepted shaped valid said = absurd said
 inner-ready es n names (push m t) accepted shaped valid said = absurd said
 inner-ready es n names (pop m t) accepted shaped valid said = absurd said
 inner-ready es n names (class m a cs) accepted shaped valid said = absurd said
+inner-ready es n names (filtered m a cs) accepted shaped valid said = absurd said
 inner-ready es n names (leaf m u a l ns) accepted shaped valid said = absurd said
 inner-ready es n names (node m u a ns) accepted shaped valid said = node-ready es n m u a None accepted shaped valid.0 valid.2 said.0
 
@@ -108,6 +110,7 @@ inner-unlimited es n names (each m s) said = absurd said
 inner-unlimited es n names (push m t) said = absurd said
 inner-unlimited es n names (pop m t) said = absurd said
 inner-unlimited es n names (class m a cs) said = absurd said
+inner-unlimited es n names (filtered m a cs) said = absurd said
 inner-unlimited es n names (leaf m u a l ns) said = absurd said
 inner-unlimited es n names (node m u a ns) said = said.0.limit_is
 
@@ -130,6 +133,7 @@ classes-valid ((n, each m s) ∷ es) valid = classes-valid es valid.1
 classes-valid ((n, push m t) ∷ es) valid = classes-valid es valid.1
 classes-valid ((n, pop m t) ∷ es) valid = classes-valid es valid.1
 classes-valid ((n, class m a cs) ∷ es) valid = (marks-in_range a valid.0.1, classes-valid es valid.1)
+classes-valid ((n, filtered m a cs) ∷ es) valid = (marks-in_range a valid.0.1, classes-valid es valid.1)
 classes-valid ((n, leaf m u a l ns) ∷ es) valid = classes-valid es valid.1
 classes-valid ((n, node m u a ns) ∷ es) valid = classes-valid es valid.1
 
@@ -154,6 +158,7 @@ some-class ((n, each m s) ∷ es) last = some-class es last
 some-class ((n, push m t) ∷ es) last = some-class es last
 some-class ((n, pop m t) ∷ es) last = some-class es last
 some-class ((n, class m a cs) ∷ es) last = omega arith
+some-class ((n, filtered m a cs) ∷ es) last = omega arith
 some-class ((n, leaf m u a l ns) ∷ es) last = some-class es last
 some-class ((n, node m u a ns) ∷ es) last = some-class es last
 

@@ -1,5 +1,5 @@
 -- The parts built from accepted statements are the parts of their policy.
-use Rattle.policy_core.proofs.Prelude.{List, ◌≡◌, ℕ, ap, sym, subst, [], ◌∙◌, arith, length, ◌<◌, ◌∷◌, refl, get_or, suc, map, Option, ◌≤◌, unwrap_or, position, get_or_default, length-map, AllByRecursion, AllZip, bytes_eq, IsAccepted, AreBuiltIn, Node, place-within, found, AreAccepted, root, most_classes, version_of, AreRising, graph_of, nodes_in, known_programs, Name, declared, node_name, class_name, place, programs, IsTreeIn, Declared, classes_in, IsResolved, AreClassesOf, Entry, Condition, Program, IsShaped, nodes-topology, depth-topology, topology_of, Topology, Tree, Address, root_of, nodes, depth, most_nodes, length-rows, rows, IsTreeBelow, Row, row_at, row, nodes_of, AreHomes, IsHome, classes_at, node_numbered, nodes_at, Made, made, made_of, nodes_told, address_at, nodes_from, HasCatchAll, no_station, node_of, resolved, station_at, tree_of, HaveStations, AreValid, IsNodeTree, PolicyNode}
+use Rattle.policy_core.proofs.Prelude.{List, ◌≡◌, ℕ, ap, sym, subst, [], ◌∙◌, arith, length, ◌<◌, ◌∷◌, refl, get_or, suc, map, Option, ◌≤◌, unwrap_or, position, get_or_default, length-map, AllByRecursion, AllZip, bytes_eq, IsAccepted, AreBuiltIn, Node, place-within, found, AreAccepted, root, most_classes, version_of, AreRising, graph_of, nodes_in, known_programs, Name, declared, node_name, class_name, place, programs, IsTreeIn, Declared, classes_in, IsResolved, AreClassesOf, Entry, Test, Program, IsShaped, nodes-topology, depth-topology, topology_of, Topology, Tree, Address, root_of, nodes, depth, most_nodes, length-rows, rows, IsTreeBelow, Row, row_at, row, nodes_of, AreHomes, IsHome, classes_at, node_numbered, nodes_at, Made, made, made_of, nodes_told, address_at, nodes_from, HasCatchAll, no_station, node_of, resolved, station_at, tree_of, HaveStations, AreValid, IsNodeTree, PolicyNode}
 use Rattle.std.proofs.lemmas.List.{get_or-map}
 use Rattle.policy_defs.specs.Policy.{Class as Aimed}
 use Rattle.tree_graph.specs.Descent.{times}
@@ -113,11 +113,11 @@ module _ (es : List Entry) (accepted : AreAccepted es) (tree : Numbered) (ss : L
   told-of : (ds : List Declared) (ms : List ℕ) → length ms ≡ length ds → map (λ (m : Made). m.conditions) (made_of ds ms) ≡ map (λ (d : Declared). d.conditions) ds
   told-of [] ms same = refl
   told-of (d ∷ ds) [] same = absurd (omega arith)
-  told-of (d ∷ ds) (m ∷ ms) same = ap (λ (rest : List (List Condition)). d.conditions ∷ rest) (told-of ds ms (omega arith))
+  told-of (d ∷ ds) (m ∷ ms) same = ap (λ (rest : List (List (List Test))). d.conditions ∷ rest) (told-of ds ms (omega arith))
 
   conditions-of : (all : List Class) → map (λ (c : Class). c.conditions) all ≡ map (λ (m : Made). m.conditions) (map made all)
   conditions-of [] = refl
-  conditions-of (c ∷ all) = ap (λ (rest : List (List Condition)). c.conditions ∷ rest) (conditions-of all)
+  conditions-of (c ∷ all) = ap (λ (rest : List (List (List Test))). c.conditions ∷ rest) (conditions-of all)
 
   leaves-count : length ns ≡ length (classes_in es)
   leaves-count = homes-count es tree.rows ns homes
@@ -166,7 +166,7 @@ module _ (es : List Entry) (accepted : AreAccepted es) (tree : Numbered) (ss : L
       omega (arith, few, length-map cs made, ap length classes, made-count (classes_in es) ns leaves-count))
 
   pub catch-all-made : HasCatchAll (map (λ (c : Class). c.conditions) cs)
-  catch-all-made = subst (λ (all : List (List Condition)). HasCatchAll all) (sym conditions-made) (catch-all es accepted.0.1)
+  catch-all-made = subst (λ (all : List (List (List Test))). HasCatchAll all) (sym conditions-made) (catch-all es accepted.0.1)
 
   each-of : {X : Type 0} (P : X → Type 0) (xs : List X) (d : X) → ((k : ℕ) → k < length xs → P (get_or xs k d)) → AllByRecursion P xs
   each-of P [] d h = tt

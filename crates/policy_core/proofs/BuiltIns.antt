@@ -1,5 +1,5 @@
 -- A policy that accepted statements give uses the names of built-in transactions only for these.
-use Rattle.policy_core.proofs.Prelude.{List, ◌≡◌, ℕ, ap, sym, subst, [], ◌∙◌, ◌∷◌, suc, Some, zero, None, Option, AreBuiltIn, Node, node_at, node_below, Name, body_named, or_written, IsTreeIn, Resolved, AreTreesIn, IsInnerOf, IsLeafOf, IsResolved, names_of, IsNodeOf, Entry, Sense, node, class, version, each, keep, pop, push, transaction, Attrs, builtin, Program, Tree, Trees, inner, more, none, Address}
+use Rattle.policy_core.proofs.Prelude.{List, ◌≡◌, ℕ, ap, sym, subst, [], ◌∙◌, ◌∷◌, suc, Some, zero, None, Option, AreBuiltIn, Node, node_at, node_below, Name, body_named, or_written, IsTreeIn, Resolved, AreTreesIn, IsInnerOf, IsLeafOf, IsResolved, names_of, IsNodeOf, Entry, Sense, node, class, filtered, version, each, keep, pop, push, transaction, Attrs, builtin, Program, Tree, Trees, inner, more, none, Address}
 use Rattle.tree_defs.specs.Tree.{leaf as leaf_of}
 use Rattle.policy_text_defs.specs.Sense.{leaf}
 use Rattle.policy_core.proofs.PlacePrograms.{none-some, some-same}
@@ -20,6 +20,7 @@ named-leaf es n (each m s) said = absurd said
 named-leaf es n (push m t) said = absurd said
 named-leaf es n (pop m t) said = absurd said
 named-leaf es n (class m a cs) said = absurd said
+named-leaf es n (filtered m a cs) said = absurd said
 named-leaf es n (leaf m u a l ns) said = named-node es n m u a l said
 named-leaf es n (node m u a ns) said = absurd said
 
@@ -31,6 +32,7 @@ named-inner es n names (each m s) said = absurd said
 named-inner es n names (push m t) said = absurd said
 named-inner es n names (pop m t) said = absurd said
 named-inner es n names (class m a cs) said = absurd said
+named-inner es n names (filtered m a cs) said = absurd said
 named-inner es n names (leaf m u a l ns) said = absurd said
 named-inner es n names (node m u a ns) said = named-node es n m u a None said.0
 

@@ -1,5 +1,5 @@
 -- Classes built from statements, one by one.
-use Rattle.policy_core.proofs.Prelude.{List, ◌≡◌, ℕ, ap, sym, [], ◌∙◌, arith, length, ◌<◌, ◌∷◌, refl, get_or, Some, map, None, ◌++◌, ◌+◌, take, length-append, slice_index, append-nil, map_push, cons_option, given-more, given-within, entries_of, Declared, classes_in, marks_of, sense_of, Attrs, Condition, Statement, Made, made, made_of}
+use Rattle.policy_core.proofs.Prelude.{List, ◌≡◌, ℕ, ap, sym, [], ◌∙◌, arith, length, ◌<◌, ◌∷◌, refl, get_or, Some, map, None, ◌++◌, ◌+◌, take, length-append, slice_index, append-nil, map_push, cons_option, given-more, given-within, entries_of, Declared, classes_in, marks_of, sense_of, Attrs, Condition, Test, Statement, Made, made, made_of}
 use Rattle.policy_text_defs.specs.declared.statement.Statement.TheVariants as statement
 use Rattle.policy_rules.specs.Resolved.{class_in}
 use Rattle.policy_core.specs.declared.parts.Class.{Class}
@@ -18,12 +18,10 @@ pub record AreMade (lines : List (ℕ × Statement)) (i : ℕ) (leaves : List �
   pub made_so_far : map made all ≡ made_of (classes_in (entries_of (take i lines))) leaves
   pub counted : length all ≡ length (classes_in (entries_of (take i lines)))
 
-pub class-more : (lines : List (ℕ × Statement)) (i : ℕ) (l : ℕ × Statement) (n : List ℕ) (a : Attrs) (cs : List Condition) (leaves : List ℕ) (old new : List Class) (c : Class) (k : ℕ)
-    → i < length lines → l ≡ get_or lines i l → l.1 ≡ statement.Class n a cs → length leaves ≡ length (classes_in (entries_of lines))
-    → AreMade lines i leaves old → new ≡ old ++ c ∷ [] → made c ≡ record { marks = marks_of a; conditions = cs; leaf = slice_index leaves k } → k ≡ length old → AreMade lines (i + 1) leaves new
-class-more lines i l n a cs leaves old new c k within is class len before more this at =
-    let d : Declared = record { name = n; marks = marks_of a; conditions = cs } in
-    let some : class_in (sense_of l.1) ≡ Some d = ap (λ s. class_in (sense_of s)) class in
+pub class-more : (lines : List (ℕ × Statement)) (i : ℕ) (l : ℕ × Statement) (d : Declared) (leaves : List ℕ) (old new : List Class) (c : Class) (k : ℕ)
+    → i < length lines → l ≡ get_or lines i l → class_in (sense_of l.1) ≡ Some d → length leaves ≡ length (classes_in (entries_of lines))
+    → AreMade lines i leaves old → new ≡ old ++ c ∷ [] → made c ≡ made_with d (slice_index leaves k) → k ≡ length old → AreMade lines (i + 1) leaves new
+class-more lines i l d leaves old new c k within is some len before more this at =
     let ds : List Declared = classes_in (entries_of (take i lines)) in
     let given : classes_in (entries_of (take (i + 1) lines)) ≡ ds ++ d ∷ [] = given-more class_in lines i l within is ∙ ap (λ o. ds ++ cons_option o []) some in
     let few : length ds < length (classes_in (entries_of lines)) = given-within class_in lines i l d within is some in
@@ -46,13 +44,14 @@ class-same lines i l leaves old new within is none before same =
       counted = ap length same ∙ before.counted ∙ ap length (sym given);
     }
 
-pub no-class : (s : Statement) → ((n : List ℕ) (a : Attrs) (cs : List Condition) → s ≡ statement.Class n a cs → ⊥) → class_in (sense_of s) ≡ None
-no-class (statement.Version v) not = refl
-no-class (statement.Transaction n) not = refl
-no-class (statement.Keep n s) not = refl
-no-class (statement.Each n s) not = refl
-no-class (statement.Push n t) not = refl
-no-class (statement.Pop n t) not = refl
-no-class (statement.Class n a cs) not = absurd (not n a cs refl)
-no-class (statement.Leaf n u a l ns) not = refl
-no-class (statement.Node n u a ns) not = refl
+pub no-class : (s : Statement) → ((n : List ℕ) (a : Attrs) (cs : List Condition) → s ≡ statement.Class n a cs → ⊥) → ((n : List ℕ) (a : Attrs) (ts : List (List Test)) → s ≡ statement.Filter n a ts → ⊥) → class_in (sense_of s) ≡ None
+no-class (statement.Version v) not other = refl
+no-class (statement.Transaction n) not other = refl
+no-class (statement.Keep n s) not other = refl
+no-class (statement.Each n s) not other = refl
+no-class (statement.Push n t) not other = refl
+no-class (statement.Pop n t) not other = refl
+no-class (statement.Class n a cs) not other = absurd (not n a cs refl)
+no-class (statement.Filter n a ts) not other = absurd (other n a ts refl)
+no-class (statement.Leaf n u a l ns) not other = refl
+no-class (statement.Node n u a ns) not other = refl

@@ -1,5 +1,5 @@
 -- If no name is declared again, the classes are distinct.
-use Rattle.policy_core.proofs.Prelude.{List, ◌≡◌, ℕ, ap, [], ◌∙◌, arith, length, ◌<◌, ◌∷◌, refl, get_or, suc, true, zero, inl, inr, false, ◌||◌, cond, cases_Bool, eqb-true, sum_by-cons, AllByRecursion, IsDistinct, option_map_or, bytes_eq, declared-distinct, NoLine, IsRepeated, is_declared, is_not_listed_once, AreRising, Name, declared, has, class_name, is_once, Entry, Sense, node, class, version, each, keep, pop, push, transaction}
+use Rattle.policy_core.proofs.Prelude.{List, ◌≡◌, ℕ, ap, [], ◌∙◌, arith, length, ◌<◌, ◌∷◌, refl, get_or, suc, true, zero, inl, inr, false, ◌||◌, cond, cases_Bool, eqb-true, sum_by-cons, AllByRecursion, IsDistinct, option_map_or, bytes_eq, declared-distinct, NoLine, IsRepeated, is_declared, is_not_listed_once, AreRising, Name, declared, has, class_name, is_once, Entry, Sense, node, class, filtered, version, each, keep, pop, push, transaction}
 use Rattle.policy_text_defs.specs.Sense.{leaf}
 use Rattle.policy_rules.specs.Names.{times}
 use Rattle.policy_core.proofs.AcceptedStatements.{holds}
@@ -13,6 +13,7 @@ new-class earlier (each m s) new = refl
 new-class earlier (push m t) new = refl
 new-class earlier (pop m t) new = refl
 new-class earlier (class m a cs) new = new
+new-class earlier (filtered m a cs) new = new
 new-class earlier (leaf m u a l ns) new = refl
 new-class earlier (node m u a ns) new = refl
 
@@ -46,6 +47,8 @@ classes-listed all ((n, each m s) ∷ es) fine k d l = classes-listed all es fin
 classes-listed all ((n, push m t) ∷ es) fine k d l = classes-listed all es fine.1 k d l
 classes-listed all ((n, pop m t) ∷ es) fine k d l = classes-listed all es fine.1 k d l
 classes-listed all ((n, class m a cs) ∷ es) fine zero d l = once-there m all (holds (is_once all m) fine.0)
+classes-listed all ((n, filtered m a cs) ∷ es) fine zero d l = once-there m all (holds (is_once all m) fine.0)
 classes-listed all ((n, class m a cs) ∷ es) fine (suc k) d l = classes-listed all es fine.1 k d (omega arith)
+classes-listed all ((n, filtered m a cs) ∷ es) fine (suc k) d l = classes-listed all es fine.1 k d (omega arith)
 classes-listed all ((n, leaf m u a o ns) ∷ es) fine k d l = classes-listed all es fine.1 k d l
 classes-listed all ((n, node m u a ns) ∷ es) fine k d l = classes-listed all es fine.1 k d l

@@ -1,5 +1,5 @@
 -- If no name is declared again and none is unknown, names identify nodes.
-use Rattle.policy_core.proofs.Prelude.{List, ◌≡◌, ℕ, ap, sym, subst, [], arith, length, ◌<◌, ◌∷◌, refl, get_or, true, ◌++◌, ◌≤◌, false, length-append, not, ◌≢◌, and_parts, eqb-false, true_from_ne_false, list_all, cons_option, IsDistinct, option_map_or, bytes_eq, entry-at, within-entries, declared-distinct, declared-few, AreFew, is_known, is_declared, is_transaction_known, is_one_too_many, entries_of, AreRising, Name, declared, node_name, has, before, Entry, Sense, node, class, version, each, keep, pop, push, transaction, sense_of, Statement, most_nodes}
+use Rattle.policy_core.proofs.Prelude.{List, ◌≡◌, ℕ, ap, sym, subst, [], arith, length, ◌<◌, ◌∷◌, refl, get_or, true, ◌++◌, ◌≤◌, false, length-append, not, ◌≢◌, and_parts, eqb-false, true_from_ne_false, list_all, cons_option, IsDistinct, option_map_or, bytes_eq, entry-at, within-entries, declared-distinct, declared-few, AreFew, is_known, is_declared, is_transaction_known, is_one_too_many, entries_of, AreRising, Name, declared, node_name, has, before, Entry, Sense, node, class, filtered, version, each, keep, pop, push, transaction, sense_of, Statement, most_nodes}
 use Rattle.std.proofs.Common.{All}
 use Rattle.policy_text_defs.specs.Sense.{leaf}
 use Rattle.policy_rules.specs.Names.{children}
@@ -21,6 +21,7 @@ not-again earlier (each n s) h = refl
 not-again earlier (push n t) h = refl
 not-again earlier (pop n t) h = refl
 not-again earlier (class n a cs) h = refl
+not-again earlier (filtered n a cs) h = refl
 not-again earlier (leaf n u a l ns) h = h
 not-again earlier (node n u a ns) h = h
 
@@ -32,6 +33,7 @@ children-known es earlier (each n s) h = refl
 children-known es earlier (push n t) h = refl
 children-known es earlier (pop n t) h = refl
 children-known es earlier (class n a cs) h = refl
+children-known es earlier (filtered n a cs) h = refl
 children-known es earlier (leaf n u a l ns) h = refl
 children-known es earlier (node n u a ns) h = (and_parts (is_transaction_known es u) (list_all (has (declared node_name es)) ns) h).1
 
@@ -43,6 +45,7 @@ room-before earlier (each n s) h few = omega (arith, few, length-append (declare
 room-before earlier (push n t) h few = omega (arith, few, length-append (declared node_name earlier) [])
 room-before earlier (pop n t) h few = omega (arith, few, length-append (declared node_name earlier) [])
 room-before earlier (class n a cs) h few = omega (arith, few, length-append (declared node_name earlier) [])
+room-before earlier (filtered n a cs) h few = omega (arith, few, length-append (declared node_name earlier) [])
 room-before earlier (leaf n u a l ns) h few = (let ne : length (declared node_name earlier) ≢ most_nodes = eqb-false _ _ h in omega (arith, few, ne, length-append (declared node_name earlier) (n ∷ [])))
 room-before earlier (node n u a ns) h few = (let ne : length (declared node_name earlier) ≢ most_nodes = eqb-false _ _ h in omega (arith, few, ne, length-append (declared node_name earlier) (n ∷ [])))
 

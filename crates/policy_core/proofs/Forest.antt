@@ -1,5 +1,5 @@
 -- If each node except the root is listed once, the graph is a forest.
-use Rattle.policy_core.proofs.Prelude.{List, ◌≡◌, ℕ, ap, sym, subst, [], ◌∙◌, arith, length, ◌<◌, ◌∷◌, refl, get_or, suc, true, Some, map, zero, ◌++◌, inl, inr, ◌≤◌, false, Bool, Contains, true≢false, cond, not, is_some, ◌≢◌, ◌⊎◌, ◌&&◌, count_by, get_or-eq_default, cases_Bool, cases_lt, and_parts, eqb-true, cases_eq, eq-eqb, ne_eqb, get_or_default, Contains-append_right, All-filter, All-head, All-map, All-tail, flat_map-map, sum_by-cons, sum_by-append, bytes_eq-Decides, list_all, IsDistinct, flat_map, option_map_or, bytes_eq, place-within, at-place, NoLine, root, IsOrphan, has_root, is_orphan, graph_of, Name, declared, node_name, has, listed, is_once, place, Entry, Sense, node, class, version, each, keep, pop, push, transaction, Graph, IsBelow, IsForest, IsChild, HasOneParent, node_entries}
+use Rattle.policy_core.proofs.Prelude.{List, ◌≡◌, ℕ, ap, sym, subst, [], ◌∙◌, arith, length, ◌<◌, ◌∷◌, refl, get_or, suc, true, Some, map, zero, ◌++◌, inl, inr, ◌≤◌, false, Bool, Contains, true≢false, cond, not, is_some, ◌≢◌, ◌⊎◌, ◌&&◌, count_by, get_or-eq_default, cases_Bool, cases_lt, and_parts, eqb-true, cases_eq, eq-eqb, ne_eqb, get_or_default, Contains-append_right, All-filter, All-head, All-map, All-tail, flat_map-map, sum_by-cons, sum_by-append, bytes_eq-Decides, list_all, IsDistinct, flat_map, option_map_or, bytes_eq, place-within, at-place, NoLine, root, IsOrphan, has_root, is_orphan, graph_of, Name, declared, node_name, has, listed, is_once, place, Entry, Sense, node, class, filtered, version, each, keep, pop, push, transaction, Graph, IsBelow, IsForest, IsChild, HasOneParent, node_entries}
 use Rattle.std.proofs.Common.{All, sum_by}
 use Rattle.std.specs.Bool.{nat_eq}
 use Rattle.policy_text_defs.specs.Sense.{leaf}
@@ -67,6 +67,7 @@ children-are (each n s) = refl
 children-are (push n t) = refl
 children-are (pop n t) = refl
 children-are (class n a cs) = refl
+children-are (filtered n a cs) = refl
 children-are (leaf n u a l ns) = refl
 children-are (node n u a ns) = refl
 

@@ -142,6 +142,7 @@ neither (statement.Each n s) no_leaf no_node = record { unnamed = refl; unlisted
 neither (statement.Push n t) no_leaf no_node = record { unnamed = refl; unlisted = refl }
 neither (statement.Pop n t) no_leaf no_node = record { unnamed = refl; unlisted = refl }
 neither (statement.Class n a cs) no_leaf no_node = record { unnamed = refl; unlisted = refl }
+neither (statement.Filter n a ts) no_leaf no_node = record { unnamed = refl; unlisted = refl }
 neither (statement.Leaf n u a l ns) no_leaf no_node = absurd (no_leaf n u a l ns refl)
 neither (statement.Node n u a ns) no_leaf no_node = absurd (no_node n u a ns refl)
 

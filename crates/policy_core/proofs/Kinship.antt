@@ -1,5 +1,5 @@
 -- Children by name and by number.
-use Rattle.policy_core.proofs.Prelude.{List, ◌≡◌, ℕ, ap, sym, subst, [], ◌∙◌, arith, length, ◌<◌, ◌∷◌, refl, get_or, suc, true, Some, map, zero, None, ◌++◌, Option, ◌+◌, ◌≤◌, take, false, Bool, Contains, cond, is_some, unwrap_or, Vec, filter_map, filter, get_or_default, length-map, map-append, take_all, Contains-append_right, filter_map-append, filter_passes, cons_option, option_to_list, entries-more, entries_of, graph_of, family, Name, declared, node_name, place, Entry, Sense, node, class, version, each, keep, pop, push, transaction, sense_of, entry, Statement, length-lists, Graph, lists, node_entries}
+use Rattle.policy_core.proofs.Prelude.{List, ◌≡◌, ℕ, ap, sym, subst, [], ◌∙◌, arith, length, ◌<◌, ◌∷◌, refl, get_or, suc, true, Some, map, zero, None, ◌++◌, Option, ◌+◌, ◌≤◌, take, false, Bool, Contains, cond, is_some, unwrap_or, Vec, filter_map, filter, get_or_default, length-map, map-append, take_all, Contains-append_right, filter_map-append, filter_passes, cons_option, option_to_list, entries-more, entries_of, graph_of, family, Name, declared, node_name, place, Entry, Sense, node, class, filtered, version, each, keep, pop, push, transaction, sense_of, entry, Statement, length-lists, Graph, lists, node_entries}
 use Rattle.std.proofs.lemmas.List.{get_or-map}
 use Rattle.std.proofs.lemmas.Simd.{map-map}
 use Rattle.policy_text_defs.specs.Sense.{leaf}
@@ -58,6 +58,7 @@ family-is (each n s) = refl
 family-is (push n t) = refl
 family-is (pop n t) = refl
 family-is (class n a cs) = refl
+family-is (filtered n a cs) = refl
 family-is (leaf n u a l ns) = refl
 family-is (node n u a ns) = refl
 

@@ -1,5 +1,5 @@
 -- Each class at a leaf that lists it.
-use Rattle.policy_core.proofs.Prelude.{List, ◌≡◌, ℕ, ap, sym, subst, [], ◌∷◌, refl, map, AllZip, graph_of, Name, declared, class_name, Declared, classes_in, AreClassesOf, IsLeafFor, Entry, node, class, version, each, keep, pop, push, transaction, Tree, IsTreeOf, rows, row_at, AreHomes, IsHome, classes_at, node_numbered, nodes_at}
+use Rattle.policy_core.proofs.Prelude.{List, ◌≡◌, ℕ, ap, sym, subst, [], ◌∷◌, refl, map, AllZip, graph_of, Name, declared, class_name, Declared, classes_in, AreClassesOf, IsLeafFor, Entry, node, class, filtered, version, each, keep, pop, push, transaction, Tree, IsTreeOf, rows, row_at, AreHomes, IsHome, classes_at, node_numbered, nodes_at}
 use Rattle.policy_text_defs.specs.Sense.{leaf}
 use Rattle.policy_core.proofs.PlaceRows.{IsNodeAt, node-of_row}
 
@@ -13,6 +13,7 @@ names-classes ((n, each m s) ∷ es) = names-classes es
 names-classes ((n, push m t) ∷ es) = names-classes es
 names-classes ((n, pop m t) ∷ es) = names-classes es
 names-classes ((n, class m a cs) ∷ es) = ap (λ l. m ∷ l) (names-classes es)
+names-classes ((n, filtered m a cs) ∷ es) = ap (λ l. m ∷ l) (names-classes es)
 names-classes ((n, leaf m u a l ns) ∷ es) = names-classes es
 names-classes ((n, node m u a ns) ∷ es) = names-classes es
 

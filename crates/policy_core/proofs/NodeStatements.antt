@@ -1,5 +1,5 @@
 -- The statements of nodes and leaves, by number.
-use Rattle.policy_core.proofs.Prelude.{List, ◌≡◌, ℕ, ap, sym, [], ◌∙◌, arith, length, ◌<◌, ◌∷◌, refl, get_or, suc, Some, map, zero, None, filter_map, cons_option, Node, family, node_in, Name, declared, node_name, Entry, Sense, node, class, version, each, keep, pop, push, transaction}
+use Rattle.policy_core.proofs.Prelude.{List, ◌≡◌, ℕ, ap, sym, [], ◌∙◌, arith, length, ◌<◌, ◌∷◌, refl, get_or, suc, Some, map, zero, None, filter_map, cons_option, Node, family, node_in, Name, declared, node_name, Entry, Sense, node, class, filtered, version, each, keep, pop, push, transaction}
 use Rattle.policy_text_defs.specs.Sense.{leaf}
 
 abbrev pub families : List Entry → List (List Name)
@@ -80,6 +80,7 @@ stated all ((n, each m s) ∷ es) i l = later all (n, each m s) es i (record { n
 stated all ((n, push m t) ∷ es) i l = later all (n, push m t) es i (record { name = refl; family = refl; node = refl }) (stated all es i l)
 stated all ((n, pop m t) ∷ es) i l = later all (n, pop m t) es i (record { name = refl; family = refl; node = refl }) (stated all es i l)
 stated all ((n, class m a cs) ∷ es) i l = later all (n, class m a cs) es i (record { name = refl; family = refl; node = refl }) (stated all es i l)
+stated all ((n, filtered m a cs) ∷ es) i l = later all (n, filtered m a cs) es i (record { name = refl; family = refl; node = refl }) (stated all es i l)
 stated all ((n, leaf m u a l ns) ∷ es) i k = counted all (n, leaf m u a l ns) es i (record { own = m; listed = []; said = _; name = refl; family = refl; node = refl }) (λ j m. stated all es j m) k
 stated all ((n, node m u a ns) ∷ es) i l = counted all (n, node m u a ns) es i (record { own = m; listed = ns; said = _; name = refl; family = refl; node = refl }) (λ j m. stated all es j m) l
 
@@ -93,6 +94,7 @@ length-families ((n, each m s) ∷ es) = length-families es
 length-families ((n, push m t) ∷ es) = length-families es
 length-families ((n, pop m t) ∷ es) = length-families es
 length-families ((n, class m a cs) ∷ es) = length-families es
+length-families ((n, filtered m a cs) ∷ es) = length-families es
 length-families ((n, leaf m u a l ns) ∷ es) = ap suc (length-families es)
 length-families ((n, node m u a ns) ∷ es) = ap suc (length-families es)
 
@@ -106,5 +108,6 @@ names-nodes all ((n, each m s) ∷ es) = names-nodes all es
 names-nodes all ((n, push m t) ∷ es) = names-nodes all es
 names-nodes all ((n, pop m t) ∷ es) = names-nodes all es
 names-nodes all ((n, class m a cs) ∷ es) = names-nodes all es
+names-nodes all ((n, filtered m a cs) ∷ es) = names-nodes all es
 names-nodes all ((n, leaf m u a l ns) ∷ es) = ap (λ l. m ∷ l) (names-nodes all es)
 names-nodes all ((n, node m u a ns) ∷ es) = ap (λ l. m ∷ l) (names-nodes all es)

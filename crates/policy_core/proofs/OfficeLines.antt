@@ -1,19 +1,19 @@
 -- Statements in memory that are those of the office.
-use Rattle.policy_core.proofs.Prelude.{List, ◌≡◌, ap, subst, [], ◌∙◌, arith, length, ◌<◌, ◌∷◌, refl, get_or, map, ◌++◌, append_assoc, ◌^◌, length-map, All-from_recursion, All-same, IsFault, entries_of, PolicyFault, NoMemory, Entry, Sense, sense_of, IsValid, Statement, office_lines, office_statements}
-use Rattle.std.proofs.Common.{All}
-use Rattle.std.proofs.lemmas.List.{get_or-map}
+use Rattle.policy_core.proofs.Prelude.{List, ◌≡◌, ap, subst, [], ◌∙◌, arith, length, ◌<◌, ◌∷◌, refl, get_or, map, ◌++◌, append_assoc, ◌^◌, length-map, sym, All-from_recursion, IsFault, entries_of, PolicyFault, NoMemory, Entry, Sense, sense_of, Statement, office_lines, office_statements}
+use Rattle.policy_text_defs.specs.declared.edition.Edition.TheVariants.{Classic}
 use Rattle.policy_text_defs.specs.Sense.{numbered}
-use Rattle.policy_text_defs.specs.Text.{IsWritten}
-use Rattle.policy_text_defs.proofs.CanonicalLaws.{IsValid_IsWritten}
+use Rattle.policy_text_defs.specs.Valid.{IsValidIn}
+use Rattle.policy_text_defs.specs.Text.{AreWritten}
+use Rattle.policy_text_defs.proofs.CanonicalLaws.{IsValidIn_IsWritten}
 use Rattle.policy_text.specs.Entries.{Numbered, entry_of}
 use Rattle.policy_rules.proofs.OneFault.{accepted-fault}
-use Rattle.policy_core.proofs.OfficeStatements.{office-valid, office-accepted}
+use Rattle.policy_core.proofs.OfficeStatements.{office-classic, office-accepted}
 
-pub written : (ss : List Statement) → map sense_of ss ≡ office_statements → All (λ s. IsWritten (sense_of s)) ss
-written ss is = λ k d within.
-    let all : All IsValid (map sense_of ss) = All-same IsValid (map sense_of ss) office_statements is (All-from_recursion IsValid office_statements office-valid) in
-    IsValid_IsWritten (sense_of (get_or ss k d))
-    (subst (λ (s : Sense). IsValid s) (get_or-map sense_of ss k d (sense_of d) within) (all k (sense_of d) (omega (arith, within, length-map ss sense_of))))
+office-written : AreWritten office_statements
+office-written = λ k d within. IsValidIn_IsWritten Classic (get_or office_statements k d) (All-from_recursion (IsValidIn Classic) office_statements office-classic k d within)
+
+pub written : (ss : List Statement) → map sense_of ss ≡ office_statements → AreWritten (map sense_of ss)
+written ss is = subst AreWritten (sym is) office-written
 
 pub few : (ss : List Statement) → map sense_of ss ≡ office_statements → length ss < 2 ^ 32
 few ss is = (let twenty : length (map sense_of ss) ≡ 20 = ap length is in omega (arith, twenty, length-map ss sense_of))

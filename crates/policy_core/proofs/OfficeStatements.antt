@@ -1,8 +1,15 @@
 -- The statements of the office can be written as lines, and fail no clause.
-use Rattle.policy_core.proofs.Prelude.{List, ◌≡◌, ℕ, ap, sym, subst, [], ◌∙◌, arith, length, ◌<◌, ◌∷◌, refl, get_or, suc, true, Some, zero, None, Option, ◌+◌, ◌≤◌, Bool, ◌||◌, not, IsTrue, if◌then◌else◌, ◌&&◌, nat_lt, ltb-true, All-contains, AllPass-from_list_all, AllByRecursion, list_all, option_map_or, IsSomeAnd, codes, ◌==◌, bytes_eq, NoLine, root, is_known, is_declared, is_not_listed_once, is_one_too_many, version_of, is_orphan, has_limit, is_placed, IsCyclic, IsDescendant, IsTooDeep, NamesLead, ListsChild, Name, node_name, before, leaf_classes, listed, Entry, Sense, node, class, version, unset, IsName, IsValid, AreValidAttributes, IsValidCondition, Attrs, Condition, Dest, Dport, Dscp, Proto, office_lines, backup_network, exactly, of_prio, of_weight, office_statements, tcp, udp, OfficeIsAccepted}
+use Rattle.policy_core.proofs.Prelude.{List, ◌≡◌, ℕ, ap, sym, subst, [], ◌∙◌, arith, length, ◌<◌, ◌∷◌, refl, get_or, suc, true, Some, zero, None, Option, ◌+◌, ◌≤◌, Bool, ◌||◌, not, IsTrue, if◌then◌else◌, ◌&&◌, nat_lt, ltb-true, All-contains, AllPass-from_list_all, AllByRecursion, list_all, option_map_or, IsSomeAnd, codes, ◌==◌, bytes_eq, NoLine, root, is_known, is_declared, is_not_listed_once, is_one_too_many, version_of, is_orphan, has_limit, is_placed, IsCyclic, IsDescendant, IsTooDeep, NamesLead, ListsChild, Name, node_name, before, leaf_classes, listed, Entry, Sense, node, class, unset, IsName, IsValid, AreValidAttributes, IsValidCondition, Attrs, Condition, Dest, Dport, Dscp, Proto, office_lines, backup_network, exactly, of_prio, of_weight, office_statements, tcp, udp, OfficeIsAccepted}
 use Rattle.policy_text_defs.specs.declared.condition.FieldName.{FieldName}
 use Rattle.policy_text_defs.specs.Ranges.{field_most}
+use Rattle.policy_text_defs.specs.declared.edition.Edition.{Edition}
+use Rattle.policy_text_defs.specs.declared.edition.Edition.TheVariants.{Classic, Third}
 use Rattle.policy_text_defs.specs.Sense.{leaf}
+use Rattle.policy_text_defs.specs.Statements.{IsVersion}
+use Rattle.policy_text_defs.specs.Valid.{HasParts, IsValidIn}
+use Rattle.policy_text_defs.specs.EditionNames.{has_names}
+use Rattle.policy_text_defs.specs.Editions.{is_of}
+use Rattle.policy_text_defs.proofs.TokenLaws.{both_true}
 use Rattle.policy_rules.specs.Names.{children}
 
 -- ---- each statement can be written
@@ -27,7 +34,7 @@ a-leaf n u a name used attributes = (name, used, attributes, tt, record { some =
 a-node : (n u : Name) (a : Attrs) (ns : List Name) → IsName n → IsName u → AreValidAttributes a → 0 < length ns → AllByRecursion IsName ns → IsValid (node n u a ns)
 a-node n u a ns name used attributes some each = (name, used, attributes, record { some = some; each = each })
 
-a-version : IsValid (version 1)
+a-version : IsVersion Classic 1
 a-version = record { above = omega arith; below = omega arith }
 
 -- one more
@@ -35,9 +42,10 @@ infixr 5 ◌&◌
 ◌&◌ : {A B : Type 0} → A → B → A × B
 a & b = (a, b)
 
-pub office-valid : AllByRecursion IsValid office_statements
-office-valid =
-    a-version &
+-- their parts are valid in each edition that has version 1
+in-edition : (e : Edition) → IsVersion e 1 → AllByRecursion (HasParts e) office_statements
+in-edition e first =
+    first &
     a-class (codes "voice") (exactly Dscp 46 ∷ []) refl (a-field Dscp 46 (omega arith), tt) &
     a-class (codes "video") (exactly Dscp 34 ∷ []) refl (a-field Dscp 34 (omega arith), tt) &
     a-class (codes "ssh") (tcp ∷ exactly Dport 22 ∷ []) refl (a-field Proto 6 (omega arith) & a-field Dport 22 (omega arith) & tt) &
@@ -57,6 +65,19 @@ office-valid =
     a-node (codes "urgent") (codes "stfq") (of_prio (Some 0)) (codes "voice" ∷ codes "video" ∷ codes "ssh" ∷ codes "dns" ∷ []) refl refl (a-prio 0 (omega arith)) (omega arith) (refl & refl & refl & refl & tt) &
     a-node (codes "normal") (codes "stfq") (of_prio (Some 1)) (codes "web" ∷ codes "mail" ∷ codes "backup" ∷ codes "other" ∷ []) refl refl (a-prio 1 (omega arith)) (omega arith) (refl & refl & refl & refl & tt) &
     a-node (codes "root") (codes "strict") unset (codes "urgent" ∷ codes "normal" ∷ []) refl refl no-attribute (omega arith) (refl & refl & tt) & tt
+
+with-names : (e : Edition) (ss : List Sense) → AllByRecursion (HasParts e) ss → list_all (has_names e) ss ≡ true → list_all (is_of e) ss ≡ true → AllByRecursion (IsValidIn e) ss
+with-names e [] all named own = tt
+with-names e (s ∷ ss) all named own =
+    let names = both_true (has_names e s) (list_all (has_names e) ss) named in
+    let kinds = both_true (is_of e s) (list_all (is_of e) ss) own in
+    ((all.0, names.0, kinds.0), with-names e ss all.1 names.1 kinds.1)
+
+pub office-classic : AllByRecursion (IsValidIn Classic) office_statements
+office-classic = with-names Classic office_statements (in-edition Classic a-version) refl refl
+
+pub office-valid : AllByRecursion IsValid office_statements
+office-valid = in-edition Third (record { above = omega arith; below = omega arith })
 
 -- ---- clauses that are tests
 no-line : (fails : Entry → Bool) (es : List Entry) → list_all (λ e. not (fails e)) es ≡ true → NoLine (λ e. IsTrue (fails e)) es

@@ -1,5 +1,5 @@
 -- Accepted statements give one policy.
-use Rattle.policy_core.proofs.Prelude.{List, ◌≡◌, ap, sym, subst, [], ◌∙◌, ◌∷◌, refl, get_or, true, Some, map, Contains, Any, get_or_default, recursion_from_All, AllByRecursion, Node, Marks, has-at, AreAccepted, AreAcyclic, HaveRoot, AreKnown, NoLine, root, IsRepeated, IsNotListedOnce, IsOrphan, IsCyclic, Name, declared, node_name, has, class_name, leaf_classes, IsTreeIn, Declared, Resolved, classes_in, AreClassesOf, IsLeafFor, ListsClass, Entry, Sense, node, class, version, each, keep, pop, push, transaction, Condition, Tree, Address, root_of}
+use Rattle.policy_core.proofs.Prelude.{List, ◌≡◌, ap, sym, subst, [], ◌∙◌, ◌∷◌, refl, get_or, true, Some, map, Contains, Any, get_or_default, recursion_from_All, AllByRecursion, Node, Marks, has-at, AreAccepted, AreAcyclic, HaveRoot, AreKnown, NoLine, root, IsRepeated, IsNotListedOnce, IsOrphan, IsCyclic, Name, declared, node_name, has, class_name, leaf_classes, IsTreeIn, Declared, Resolved, classes_in, AreClassesOf, IsLeafFor, ListsClass, Entry, Sense, node, class, filtered, version, each, keep, pop, push, transaction, Test, Tree, Address, root_of}
 use Rattle.policy_text_defs.specs.Sense.{leaf}
 use Rattle.policy_defs.specs.Policy.{Class}
 use Rattle.policy_rules.proofs.ListedOnce.{class-one_leaf}
@@ -30,6 +30,7 @@ lister-name n c (each m s) h = absurd h
 lister-name n c (push m t) h = absurd h
 lister-name n c (pop m t) h = absurd h
 lister-name n c (class m a cs) h = absurd h
+lister-name n c (filtered m a cs) h = absurd h
 lister-name n c (leaf m u a l ns) h = ap Some h.0
 lister-name n c (node m u a ns) h = absurd h
 
@@ -41,6 +42,7 @@ lister-classes n c (each m s) h = absurd h
 lister-classes n c (push m t) h = absurd h
 lister-classes n c (pop m t) h = absurd h
 lister-classes n c (class m a cs) h = absurd h
+lister-classes n c (filtered m a cs) h = absurd h
 lister-classes n c (leaf m u a l ns) h = h.1
 lister-classes n c (node m u a ns) h = absurd h
 
@@ -88,7 +90,7 @@ one-resolved r s versions trees classes conditions =
     ap (λ v. record { policy = record { version = v; tree = r.policy.tree; classes = r.policy.classes }; conditions = r.conditions }) versions
     ∙ ap (λ (t : Tree Node). record { policy = record { version = s.policy.version; tree = t; classes = r.policy.classes }; conditions = r.conditions }) trees
     ∙ ap (λ (cs : List Class). record { policy = record { version = s.policy.version; tree = s.policy.tree; classes = cs }; conditions = r.conditions }) classes
-    ∙ ap (λ (l : List (List Condition)). record { policy = s.policy; conditions = l }) conditions
+    ∙ ap (λ (l : List (List (List Test))). record { policy = s.policy; conditions = l }) conditions
 
 pub one-policy : StatementsGiveOnePolicy
 one-policy es r s rising accepted h k = one-resolved r s (h.version_is ∙ sym k.version_is) trees classes (h.conditions ∙ sym k.conditions)

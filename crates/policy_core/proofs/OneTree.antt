@@ -1,5 +1,5 @@
 -- Two trees with the same root are equal.
-use Rattle.policy_core.proofs.Prelude.{List, ◌≡◌, ℕ, ap, sym, [], ◌∙◌, arith, length, refl, get_or, suc, Some, None, Option, Any, drop, Node, Marks, NoLine, IsRepeated, AreRising, Name, node_name, IsTreeIn, AreTreesIn, IsInnerOf, IsLeafOf, names_of, IsNodeOf, Entry, Sense, node, class, version, each, keep, pop, push, transaction, Attrs, Program, Tree, Trees, inner, more, none, root_of}
+use Rattle.policy_core.proofs.Prelude.{List, ◌≡◌, ℕ, ap, sym, [], ◌∙◌, arith, length, refl, get_or, suc, Some, None, Option, Any, drop, Node, Marks, NoLine, IsRepeated, AreRising, Name, node_name, IsTreeIn, AreTreesIn, IsInnerOf, IsLeafOf, names_of, IsNodeOf, Entry, Sense, node, class, filtered, version, each, keep, pop, push, transaction, Attrs, Program, Tree, Trees, inner, more, none, root_of}
 use Rattle.tree_defs.specs.Tree.{leaf as leaf_of}
 use Rattle.policy_text_defs.specs.Sense.{leaf}
 use Rattle.policy_rules.specs.Names.{children}
@@ -16,6 +16,7 @@ leaf-name es n (each m s) h = absurd h
 leaf-name es n (push m t) h = absurd h
 leaf-name es n (pop m t) h = absurd h
 leaf-name es n (class m a cs) h = absurd h
+leaf-name es n (filtered m a cs) h = absurd h
 leaf-name es n (leaf m u a l ns) h = ap Some (sym h.name_is)
 leaf-name es n (node m u a ns) h = absurd h
 
@@ -27,6 +28,7 @@ inner-name es n names (each m s) h = absurd h
 inner-name es n names (push m t) h = absurd h
 inner-name es n names (pop m t) h = absurd h
 inner-name es n names (class m a cs) h = absurd h
+inner-name es n names (filtered m a cs) h = absurd h
 inner-name es n names (leaf m u a l ns) h = absurd h
 inner-name es n names (node m u a ns) h = ap Some (sym h.0.name_is)
 
@@ -39,6 +41,7 @@ inner-children es n names (each m s) h = absurd h
 inner-children es n names (push m t) h = absurd h
 inner-children es n names (pop m t) h = absurd h
 inner-children es n names (class m a cs) h = absurd h
+inner-children es n names (filtered m a cs) h = absurd h
 inner-children es n names (leaf m u a l ns) h = absurd h
 inner-children es n names (node m u a ns) h = h.1
 
@@ -58,6 +61,7 @@ one-leaf es n m (each w s) h k = absurd h
 one-leaf es n m (push w t) h k = absurd h
 one-leaf es n m (pop w t) h k = absurd h
 one-leaf es n m (class w a cs) h k = absurd h
+one-leaf es n m (filtered w a cs) h k = absurd h
 one-leaf es n m (leaf w u a l ns) h k = one-node es n m w u a l h k
 one-leaf es n m (node w u a ns) h k = absurd h
 
@@ -69,6 +73,7 @@ one-inner es n m names others (each w s) h k = absurd h
 one-inner es n m names others (push w t) h k = absurd h
 one-inner es n m names others (pop w t) h k = absurd h
 one-inner es n m names others (class w a cs) h k = absurd h
+one-inner es n m names others (filtered w a cs) h k = absurd h
 one-inner es n m names others (leaf w u a l ns) h k = absurd h
 one-inner es n m names others (node w u a ns) h k = one-node es n m w u a None h.0 k.0
 
@@ -80,6 +85,7 @@ leaf-not_inner es n m names (each w s) h k = h
 leaf-not_inner es n m names (push w t) h k = h
 leaf-not_inner es n m names (pop w t) h k = h
 leaf-not_inner es n m names (class w a cs) h k = h
+leaf-not_inner es n m names (filtered w a cs) h k = h
 leaf-not_inner es n m names (leaf w u a l ns) h k = k
 leaf-not_inner es n m names (node w u a ns) h k = h
 

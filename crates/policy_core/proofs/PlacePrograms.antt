@@ -1,5 +1,5 @@
 -- The programs that names of transactions denote.
-use Rattle.policy_core.proofs.Prelude.{List, ◌≡◌, ap, sym, subst, [], ◌∙◌, ◌∷◌, refl, true, Some, map, None, Option, inl, inr, false, Bool, true≢false, ◌||◌, cond, is_some, unwrap_or, find, option_map, cases_Bool, AllByRecursion, bytes_eq, is_transaction_known, Name, declared, has, transaction_name, programs, body_named, or_written, program_named, program_in, Entry, node, class, version, each, keep, pop, push, transaction, Builtin, builtin, builtins, fifo, same_name, Program}
+use Rattle.policy_core.proofs.Prelude.{List, ◌≡◌, ap, sym, subst, [], ◌∙◌, ◌∷◌, refl, true, Some, map, None, Option, inl, inr, false, Bool, true≢false, ◌||◌, cond, is_some, unwrap_or, find, option_map, cases_Bool, AllByRecursion, bytes_eq, is_transaction_known, Name, declared, has, transaction_name, programs, body_named, or_written, program_named, program_in, Entry, node, class, filtered, version, each, keep, pop, push, transaction, Builtin, builtin, builtins, fifo, same_name, Program}
 use Rattle.policy_text_defs.specs.Sense.{leaf}
 use Rattle.policy_rules.specs.Bodies.{Body, bodies}
 
@@ -24,6 +24,7 @@ names-bodies ((n, each m s) ∷ es) = names-bodies es
 names-bodies ((n, push m t) ∷ es) = names-bodies es
 names-bodies ((n, pop m t) ∷ es) = names-bodies es
 names-bodies ((n, class m a cs) ∷ es) = names-bodies es
+names-bodies ((n, filtered m a cs) ∷ es) = names-bodies es
 names-bodies ((n, leaf m u a l ns) ∷ es) = names-bodies es
 names-bodies ((n, node m u a ns) ∷ es) = names-bodies es
 

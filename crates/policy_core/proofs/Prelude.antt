@@ -4,7 +4,7 @@ pub use Rattle.std.proofs.Math.Bool.{or-true, or-false}
 pub use Rattle.std.proofs.Math.ListN.{get_or-eq_default}
 pub use Rattle.std.proofs.lemmas.Bool.{cases_Bool, cases_lt, and_parts, eqb-true, cases_order, cases_eq, eq-eqb, eqb-false, le-ltb, lt-ltb, ltb-true, ne_eqb, true_from_ne_false}
 pub use Rattle.std.proofs.lemmas.List.{get_or_default, length-map, get_or-append-add, get_or-set_other, get_or-set_same, get_or_append_left, length-set, map-append, take_all, get_or-take, length-replicate, length-take, map_push}
-pub use Rattle.std.proofs.lemmas.List.Elements.{Contains-append_right, recursion_from_All, filter_map-append, All-cons, All-contains, All-filter, All-from_recursion, All-head, All-map, All-nil, All-same, All-tail, filter_passes}
+pub use Rattle.std.proofs.lemmas.List.Elements.{Contains-append_right, recursion_from_All, filter_map-append, All-cons, All-contains, All-filter, All-from_recursion, All-head, All-map, All-nil, All-tail, filter_passes}
 pub use Rattle.std.proofs.lemmas.List.Folds.{list_any_at, Any-from_list_any, flat_map-map, list_any-append, list_any_more}
 pub use Rattle.std.proofs.lemmas.List.Sums.{sum_by-cons, AllPass-from_list_all, get_or-le-sum_by, sum_by-append}
 pub use Rattle.std.proofs.lemmas.Result.{on_ok_weaker}
@@ -34,11 +34,13 @@ pub use Rattle.policy_rules.specs.declared.fault.PolicyFault.{PolicyFault}
 pub use Rattle.policy_rules.specs.declared.fault.PolicyFault.TheVariants.{NoMemory, ClassLeaf, Cycle, Deep, DivZero, Misplaced, NoCatchAll, NoRoot, OldVersion, Parents, TooMany, Twice, TypeClash, Unknown, Wide}
 pub use Rattle.policy_text.specs.Entries.{AreWritten, IsRising}
 pub use Rattle.policy_text_defs.proofs.ValidLaws.{IsWritten_IsValid}
-pub use Rattle.policy_text_defs.specs.Sense.{Entry, Sense, node, class, version, each, keep, pop, push, transaction, sense_of, entry}
+pub use Rattle.policy_text_defs.specs.Sense.{Entry, Sense, node, class, filter as filtered, version, each, keep, pop, push, transaction, sense_of, entry}
 pub use Rattle.policy_text_defs.specs.Statements.{unset, IsName}
 pub use Rattle.policy_text_defs.specs.Valid.{IsValid, AreValidAttributes, IsValidAttribute, IsValidCondition}
 pub use Rattle.policy_text_defs.specs.declared.attribute.Attrs.{Attrs}
 pub use Rattle.policy_text_defs.specs.declared.condition.Condition.{Condition}
+pub use Rattle.policy_text_defs.specs.declared.test.Test.{Test}
+pub use Rattle.policy_rules.specs.Alternatives.{alternatives_of}
 pub use Rattle.policy_text_defs.specs.declared.condition.Condition.TheVariants.{Dest}
 pub use Rattle.policy_text_defs.specs.declared.condition.FieldName.TheVariants.{Dport, Dscp, Proto}
 pub use Rattle.policy_text_defs.specs.declared.statement.Statement.{Statement}

@@ -1,5 +1,5 @@
 -- The tree of nodes that statements declare, from the tree of their numbers.
-use Rattle.policy_core.proofs.Prelude.{List, ◌≡◌, ℕ, ap, sym, subst, [], ◌∙◌, arith, length, ◌<◌, ◌∷◌, refl, get_or, suc, true, Some, map, None, Option, IsTrue, and_parts, AllByRecursion, list_all, Node, place-within, at-place, at-places, AreAccepted, NoLine, root, IsUnknown, is_known, is_transaction_known, graph_of, nodes_in, family, node_in, said, Name, declared, node_name, has, before, place, IsTreeIn, AreTreesIn, IsInnerOf, IsLeafOf, names_of, IsNodeOf, Entry, Sense, node, class, version, each, keep, pop, push, transaction, IsValid, Attrs, Tree, Trees, inner, more, none, root_of, IsTreeOf, AreTreesOf, labels, map_tree, map_trees, node_numbered, nodes_at, AreValid, IsNodeTree}
+use Rattle.policy_core.proofs.Prelude.{List, ◌≡◌, ℕ, ap, sym, subst, [], ◌∙◌, arith, length, ◌<◌, ◌∷◌, refl, get_or, suc, true, Some, map, None, Option, IsTrue, and_parts, AllByRecursion, list_all, Node, place-within, at-place, at-places, AreAccepted, NoLine, root, IsUnknown, is_known, is_transaction_known, graph_of, nodes_in, family, node_in, said, Name, declared, node_name, has, before, place, IsTreeIn, AreTreesIn, IsInnerOf, IsLeafOf, names_of, IsNodeOf, Entry, Sense, node, class, filtered, version, each, keep, pop, push, transaction, IsValid, Attrs, Tree, Trees, inner, more, none, root_of, IsTreeOf, AreTreesOf, labels, map_tree, map_trees, node_numbered, nodes_at, AreValid, IsNodeTree}
 use Rattle.std.proofs.Common.{All}
 use Rattle.std.proofs.Math.ListN.{get_or-map}
 use Rattle.tree_defs.specs.Tree.{leaf as leaf_of}
@@ -21,6 +21,7 @@ is-leaf es earlier n (each m s) valid f e known = absurd (none-some f)
 is-leaf es earlier n (push m t) valid f e known = absurd (none-some f)
 is-leaf es earlier n (pop m t) valid f e known = absurd (none-some f)
 is-leaf es earlier n (class m a cs) valid f e known = absurd (none-some f)
+is-leaf es earlier n (filtered m a cs) valid f e known = absurd (none-some f)
 is-leaf es earlier n (leaf m u a l ns) valid f e known = is-node es n m u a l e (and_parts _ _ known).0
 is-leaf es earlier n (node m u a ns) valid f e known = (let none : length ns ≡ 0 = ap length (some-same f) in absurd (omega (arith, none, valid.3.some)))
 
@@ -32,6 +33,7 @@ is-inner es earlier n names ns (each m s) some same f e known = absurd (none-som
 is-inner es earlier n names ns (push m t) some same f e known = absurd (none-some f)
 is-inner es earlier n names ns (pop m t) some same f e known = absurd (none-some f)
 is-inner es earlier n names ns (class m a cs) some same f e known = absurd (none-some f)
+is-inner es earlier n names ns (filtered m a cs) some same f e known = absurd (none-some f)
 is-inner es earlier n names ns (leaf m u a l ms) some same f e known = (let none : length ns ≡ 0 = ap length (sym (some-same f)) in absurd (omega (arith, none, some)))
 is-inner es earlier n names ns (node m u a ms) some same f e known = (is-node es n m u a None e (and_parts _ _ known).0, same ∙ sym (some-same f))
 
@@ -44,6 +46,7 @@ family-known es earlier ns (each m s) f known = absurd (none-some f)
 family-known es earlier ns (push m t) f known = absurd (none-some f)
 family-known es earlier ns (pop m t) f known = absurd (none-some f)
 family-known es earlier ns (class m a cs) f known = absurd (none-some f)
+family-known es earlier ns (filtered m a cs) f known = absurd (none-some f)
 family-known es earlier ns (leaf m u a l ms) f known = ap (list_all (has (declared node_name es))) (sym (some-same f))
 family-known es earlier ns (node m u a ms) f known = ap (list_all (has (declared node_name es))) (sym (some-same f)) ∙ (and_parts _ _ known).1
 

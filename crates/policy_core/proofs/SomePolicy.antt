@@ -1,6 +1,6 @@
 -- Accepted statements give a policy: the tree of their graph below the root, and for each class the
 -- leaf that lists it.
-use Rattle.policy_core.proofs.Prelude.{List, ◌≡◌, ℕ, ap, sym, subst, [], ◌∙◌, arith, length, ◌<◌, ◌∷◌, refl, get_or, suc, true, Some, map, inl, inr, Contains, Any, cond, cases_Bool, eqb-true, length-map, recursion_from_All, sum_by-cons, AllByRecursion, AllZip, has-at, AreAccepted, root, version_of, AreRising, graph_of, Name, declared, node_name, has, class_name, leaf_classes, place, Declared, Resolved, classes_in, IsResolved, ListsClass, Entry, Sense, node, class, version, each, keep, pop, push, transaction, Tree, most_levels, IsForest, IsWithin, IsTreeOf, rows, preorder, Row, row_at, row, nodes_of, AreHomes, IsHome, IsLeafWith, classes_at, nodes_at, IsNodeTree}
+use Rattle.policy_core.proofs.Prelude.{List, ◌≡◌, ℕ, ap, sym, subst, [], ◌∙◌, arith, length, ◌<◌, ◌∷◌, refl, get_or, suc, true, Some, map, inl, inr, Contains, Any, cond, cases_Bool, eqb-true, length-map, recursion_from_All, sum_by-cons, AllByRecursion, AllZip, has-at, AreAccepted, root, version_of, AreRising, graph_of, Name, declared, node_name, has, class_name, leaf_classes, place, Declared, Resolved, classes_in, IsResolved, ListsClass, Entry, Sense, node, class, filtered, version, each, keep, pop, push, transaction, Tree, most_levels, IsForest, IsWithin, IsTreeOf, rows, preorder, Row, row_at, row, nodes_of, AreHomes, IsHome, IsLeafWith, classes_at, nodes_at, IsNodeTree}
 use Rattle.std.proofs.Common.{nat_eq}
 use Rattle.std.proofs.lemmas.List.{get_or-map}
 use Rattle.policy_text_defs.specs.Sense.{leaf}
@@ -29,6 +29,7 @@ lister-childless n c (each m s) h = absurd h
 lister-childless n c (push m t) h = absurd h
 lister-childless n c (pop m t) h = absurd h
 lister-childless n c (class m a cs) h = absurd h
+lister-childless n c (filtered m a cs) h = absurd h
 lister-childless n c (leaf m u a l ns) h = refl
 lister-childless n c (node m u a ns) h = absurd h
 

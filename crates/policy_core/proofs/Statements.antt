@@ -1,5 +1,5 @@
 -- No two statements declare the same node or leaf.
-use Rattle.policy_core.proofs.Prelude.{List, ◌≡◌, ℕ, ap, sym, subst, [], ◌∙◌, arith, length, ◌<◌, ◌∷◌, refl, get_or, suc, true, Some, zero, None, Option, inl, inr, take, ◌||◌, Any, or-true, cases_order, get_or_default, get_or-take, length-take, bytes_eq-Decides, cons_option, bytes_eq, NoLine, IsRepeated, is_declared, AreRising, Name, declared, node_name, has, before, Entry, Sense, node, class, version, each, keep, pop, push, transaction}
+use Rattle.policy_core.proofs.Prelude.{List, ◌≡◌, ℕ, ap, sym, subst, [], ◌∙◌, arith, length, ◌<◌, ◌∷◌, refl, get_or, suc, true, Some, zero, None, Option, inl, inr, take, ◌||◌, Any, or-true, cases_order, get_or_default, get_or-take, length-take, bytes_eq-Decides, cons_option, bytes_eq, NoLine, IsRepeated, is_declared, AreRising, Name, declared, node_name, has, before, Entry, Sense, node, class, filtered, version, each, keep, pop, push, transaction}
 use Rattle.policy_text_defs.specs.Sense.{leaf}
 use Rattle.policy_core.proofs.PlacePrograms.{none-some, some-same}
 use Rattle.policy_rules.proofs.EarlierLines.{before-take}
@@ -23,6 +23,7 @@ declares-again earlier (each m s) a is there = absurd (none-some is)
 declares-again earlier (push m t) a is there = absurd (none-some is)
 declares-again earlier (pop m t) a is there = absurd (none-some is)
 declares-again earlier (class m c cs) a is there = absurd (none-some is)
+declares-again earlier (filtered m c cs) a is there = absurd (none-some is)
 declares-again earlier (leaf m u c l ns) a is there = ap (has (declared node_name earlier)) (some-same is) ∙ there
 declares-again earlier (node m u c ns) a is there = ap (has (declared node_name earlier)) (some-same is) ∙ there
 

@@ -6,12 +6,12 @@ use Rattle.tree_defs.specs.Codes.{tree_code}
 use Rattle.rank_defs.specs.Programs.{Program}
 use Rattle.range_core.specs.Codes.{program_code}
 use Rattle.policy_defs.specs.Policy.{Policy, Node, Class, Marks}
-use Rattle.policy_text_defs.specs.declared.condition.Condition.{Condition}
-use Rattle.policy_text_defs.specs.contracts.condition.Condition as condition_row
+use Rattle.policy_text_defs.specs.declared.test.Test.{Test}
+use Rattle.policy_text_defs.specs.contracts.test.Test as test_row
 use Rattle.policy_rules.specs.Resolved.{Resolved}
 
-abbrev condition_code : Coded Condition
-condition_code = condition_row.the_row.coded
+abbrev test_code : Coded Test
+test_code = test_row.the_row.coded
 
 abbrev pub marks_code : Coded Marks
 marks_code = code_by (ℕ × (ℕ × ℕ)) (coded× coded_ℕ (coded× coded_ℕ coded_ℕ)) (λ m. (m.prio, (m.weight, m.slack))) (λ p. record { prio = p.0; weight = p.1.0; slack = p.1.1 }) (λ _. refl)
@@ -30,4 +30,4 @@ policy_code =
     (λ p. (p.version, (p.tree, p.classes))) (λ p. record { version = p.0; tree = p.1.0; classes = p.1.1 }) (λ _. refl)
 
 abbrev pub resolved_code : Coded Resolved
-resolved_code = code_by (Policy × List (List Condition)) (coded× policy_code (coded_list (coded_list condition_code))) (λ r. (r.policy, r.conditions)) (λ p. record { policy = p.0; conditions = p.1 }) (λ _. refl)
+resolved_code = code_by (Policy × List (List (List Test))) (coded× policy_code (coded_list (coded_list (coded_list test_code)))) (λ r. (r.policy, r.conditions)) (λ p. record { policy = p.0; conditions = p.1 }) (λ _. refl)

@@ -3,7 +3,7 @@ use Rattle.std.specs.Prelude.{◌≡◌, ◌<◌, ℕ, Option, List, [], ◌∷�
 use Rattle.std.specs.List.{cons_option}
 use Rattle.rank_defs.specs.Builtins.{fifo}
 use Rattle.rank_defs.specs.Programs.{Program}
-use Rattle.policy_text_defs.specs.declared.condition.Condition.{Condition}
+use Rattle.policy_text_defs.specs.declared.test.Test.{Test}
 use Rattle.policy_defs.specs.Policy.{Node, Marks as Told}
 use Rattle.policy_text_defs.specs.declared.attribute.Attrs.{Attrs}
 use Rattle.policy_text_defs.specs.Sense.{Sense, Entry}
@@ -38,7 +38,7 @@ pub record AreMore (es : List Entry) (s : Sense) (old new : List PolicyNode) : T
 -- the properties of a class, with the number of its leaf
 pub record Made : Type 0 where
   pub marks : Told
-  pub conditions : List Condition
+  pub conditions : List (List Test)
   pub leaf : ℕ
 
 abbrev pub made : Class → Made

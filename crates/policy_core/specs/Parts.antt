@@ -3,7 +3,7 @@ use Rattle.std.specs.Prelude.{◌≡◌, ◌<◌, ◌≤◌, ℕ, None, List, []
 use Rattle.std.specs.List.{AllByRecursion}
 use Rattle.tree_defs.specs.Tree.{Tree, most_nodes}
 use Rattle.rank_defs.specs.Programs.{Program}
-use Rattle.policy_text_defs.specs.declared.condition.Condition.{Condition}
+use Rattle.policy_text_defs.specs.declared.test.Test.{Test}
 use Rattle.policy_defs.specs.Policy.{Node, Class as Aimed, Marks as Told}
 use Rattle.policy_defs.specs.Accepted.{IsAccepted}
 use Rattle.policy_defs.specs.BuiltIn.{AreBuiltIn}
@@ -64,8 +64,8 @@ abbrev pub HaveLeaves : Numbered → List Class → Type 0
 HaveLeaves tree classes = AllByRecursion (λ c. c.leaf < length tree.rows) classes
 
 -- the last class has no condition
-abbrev pub HasCatchAll : List (List Condition) → Type 0
-HasCatchAll conditions = (others : List (List Condition)) × (conditions ≡ others ++ [] ∷ [])
+abbrev pub HasCatchAll : List (List (List Test)) → Type 0
+HasCatchAll conditions = (others : List (List (List Test))) × (conditions ≡ others ++ [] ∷ [])
 
 pub record IsWhole (version : ℕ) (tree : Numbered) (ss : List PolicyNode) (ps : List Program) (cs : List Class) : Type 0 where
   pub numbered : AreNumbered tree

@@ -1,5 +1,6 @@
 -- Consequences for policy texts, their statements, and the policies that accepted statements give.
 use Rattle.std.specs.Prelude.{◌≡◌, ◌≢◌, ◌≤◌, ℕ, List, length}
+use Rattle.policy_text_defs.specs.declared.edition.Edition.{Edition}
 use Rattle.policy_text_defs.specs.Ranges.{most_text}
 use Rattle.policy_text_defs.specs.Sense.{Entry}
 use Rattle.policy_text_defs.specs.Text.{Fault, HasEntries, IsFirstFault}
@@ -10,12 +11,13 @@ use Rattle.policy_rules.specs.declared.fault.PolicyFault.{PolicyFault}
 use Rattle.policy_rules.specs.declared.fault.PolicyFault.TheVariants.{NoMemory}
 use Rattle.policy_core.specs.PlaceLaws.{AreValid}
 
--- in a text within the length limit, statements and a line in error can't both be missing
+-- for a reader of the editions up to `latest`, statements and a line in error can't both be missing
+-- in a text within the length limit
 abbrev pub PolicyTextsHaveAnAnswer : Type 0
 PolicyTextsHaveAnAnswer =
-    (text : List ℕ) → length text ≤ most_text
-    → ((entries : List Entry) → HasEntries text entries → ⊥)
-    → ((n : ℕ) (fault : Fault) → IsFirstFault text n fault → ⊥)
+    (latest : Edition) (text : List ℕ) → length text ≤ most_text
+    → ((entries : List Entry) → HasEntries latest text entries → ⊥)
+    → ((n : ℕ) (fault : Fault) → IsFirstFault latest text n fault → ⊥)
     → ⊥
 
 -- the statements of a text are on increasing lines, and each can be written as a line
@@ -24,7 +26,7 @@ pub record HasSoundEntries (entries : List Entry) : Type 0 where
   pub valid : AreValid entries
 
 abbrev pub TextsHaveSoundEntries : Type 0
-TextsHaveSoundEntries = (text : List ℕ) (entries : List Entry) → HasEntries text entries → HasSoundEntries entries
+TextsHaveSoundEntries = (latest : Edition) (text : List ℕ) (entries : List Entry) → HasEntries latest text entries → HasSoundEntries entries
 
 -- statements without an error are accepted
 abbrev pub FaultlessAreAccepted : Type 0

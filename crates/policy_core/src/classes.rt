@@ -7,28 +7,24 @@ ghost use Rattle.policy_core.specs.Made.{made, made_of};
 
 use crate::nodes::marks;
 use crate::parts::Class;
+use crate::tests::{alternatives_of, copy_alternatives};
 use list_core::List;
-use policy_text_defs::{Attrs, Condition, Statement};
+use policy_text_defs::{Attrs, Statement, Test};
 use std::alloc::{AllocError, Global};
 
-fn class(
-    alloc: Global,
-    attrs: &Attrs,
-    conditions: &[Condition],
-    leaf: u32,
-) -> Result<Class, AllocError>
-    ensures { IfOk result (λ c. made c ≡ record {
+fn class(attrs: &Attrs, conditions: List<List<Test>>, leaf: u32) -> Class
+    ensures { made result ≡ record {
       marks = marks_of attrs.now;
       conditions =
-          conditions.now;
+          conditions;
       leaf = leaf;
-    }) }
+    } }
 {
-    Ok(Class {
+    Class {
         marks: marks(attrs),
-        conditions: List::from_vec(Vec::from_slice(alloc, conditions)?),
+        conditions,
         leaf,
-    })
+    }
 }
 
 /// Returns the classes in the order of their statements, each with its leaf. The error means out of
@@ -44,9 +40,18 @@ pub(crate) fn classes(
 {
     let mut classes = List::from_vec(Vec::new(alloc));
     for (_, statement) in lines {
-        if let Statement::Class(_, attrs, conditions) = statement {
-            let leaf = leaves[classes.len()];
-            classes.push(class(alloc, attrs, conditions.as_slice(), leaf)?)?;
+        match statement {
+            Statement::Class(_, attrs, conditions) => {
+                let leaf = leaves[classes.len()];
+                let alternatives = alternatives_of(alloc, conditions.as_slice())?;
+                classes.push(class(attrs, alternatives, leaf))?;
+            }
+            Statement::Filter(_, attrs, tests) => {
+                let leaf = leaves[classes.len()];
+                let alternatives = copy_alternatives(alloc, tests.as_slice())?;
+                classes.push(class(attrs, alternatives, leaf))?;
+            }
+            _ => {}
         }
     }
     Ok(classes)

@@ -16,6 +16,7 @@ mod parts;
 mod place_laws;
 mod policy;
 mod resolution;
+mod tests;
 mod text_laws;
 
 pub use family_laws::{families_are_forests, families_are_shallow};

@@ -1,6 +1,6 @@
 //! The parts of a policy.
 use list_core::{List, Name};
-use policy_text_defs::Condition;
+use policy_text_defs::Test;
 
 /// The values that steps can read of a node or a class: the priority, the weight, and the slack in
 /// nanoseconds.
@@ -22,11 +22,12 @@ pub struct PolicyNode {
     pub limit: Option<u32>,
 }
 
-/// A class of packets: its marks, the conditions that a packet must meet, and the preorder number
-/// of the leaf that queues its packets.
+/// A class of packets: its marks, its conditions, and the preorder number of the leaf that queues its
+/// packets. The conditions are alternatives, each a list of tests. A packet belongs to the class if
+/// it passes all tests of one of them, or if there are none.
 #[derive(Drop)]
 pub struct Class {
     pub marks: Marks,
-    pub conditions: List<Condition>,
+    pub conditions: List<List<Test>>,
     pub leaf: u32,
 }

@@ -1,5 +1,5 @@
 -- A name that statements list once is listed by one statement.
-use Rattle.policy_rules.proofs.Prelude.{◌∙◌, ap, List, ◌≡◌, sym, ℕ, [], ◌∷◌, refl, take, false, Bool, length, subst, true, not, Some, ◌+◌, arith, ◌<◌, inl, inr, ◌||◌, None, get_or, true≢false, ◌≤◌, Option, cond, drop, ◌&&◌, suc, ◌≢◌, nat_eq, IsTrue, Any, Contains, cases_Bool, cases_order, nat_tests, get_or-take, length-take, Contains-append_right, sum_by-append, get_or-le-sum_by, sum_by-cons, sum_by-drop_more, sum_by-take-drop, bytes_eq-Decides, cons_option, list_any, sum_by, option_map_or, bytes_eq, Entry, Sense, class, pop, push, transaction, version, each, keep, leaf, node, IsNotListedOnce, IsOrphan, NoLine, root, Name, has, declared, is_once, listed, node_name, children, class_name, leaf_classes, times}
+use Rattle.policy_rules.proofs.Prelude.{◌∙◌, ap, List, ◌≡◌, sym, ℕ, [], ◌∷◌, refl, take, false, Bool, length, subst, true, not, Some, ◌+◌, arith, ◌<◌, inl, inr, ◌||◌, None, get_or, true≢false, ◌≤◌, Option, cond, drop, ◌&&◌, suc, ◌≢◌, nat_eq, IsTrue, Any, Contains, cases_Bool, cases_order, nat_tests, get_or-take, length-take, Contains-append_right, sum_by-append, get_or-le-sum_by, sum_by-cons, sum_by-drop_more, sum_by-take-drop, bytes_eq-Decides, cons_option, list_any, sum_by, option_map_or, bytes_eq, Entry, Sense, class, filtered, pop, push, transaction, version, each, keep, leaf, node, IsNotListedOnce, IsOrphan, NoLine, root, Name, has, declared, is_once, listed, node_name, children, class_name, leaf_classes, times}
 use Rattle.policy_rules.specs.Resolved.{ListsClass}
 
 Any-cons : {X : Type 0} (P : X → Type 0) (x : X) (xs : List X) → Any P xs → Any P (x ∷ xs)
@@ -113,6 +113,7 @@ lists-leaf (each n s) a lists = absurd (omega (arith, lists.1))
 lists-leaf (push n t) a lists = absurd (omega (arith, lists.1))
 lists-leaf (pop n t) a lists = absurd (omega (arith, lists.1))
 lists-leaf (class n m cs) a lists = absurd (omega (arith, lists.1))
+lists-leaf (filtered n m cs) a lists = absurd (omega (arith, lists.1))
 lists-leaf (node n u m ns) a lists = absurd (omega (arith, lists.1))
 
 -- ---- children

@@ -1,5 +1,5 @@
 -- The index of a name's program among all programs.
-use Rattle.policy_rules.proofs.Prelude.{◌∙◌, ap, List, ◌≡◌, sym, ℕ, [], ◌∷◌, refl, ◌++◌, false, Bool, length, subst, true, Some, ◌+◌, arith, ◌<◌, ◌||◌, None, true≢false, ◌≤◌, Option, cond, map, position, suc, ◌≢◌, nat_lt, rules, is_some, nat_eq, option_map, zero, ◌^◌, eqb-false, append-nil, length-append, find_at, cons_option, list_any, position_or_len, SomeIff, find, option_and_then, slice_get, bytes_eq, Entry, Sense, class, pop, push, transaction, version, each, keep, leaf, node, builtins, Builtin, builtin, same_name, Program, AreFew, bodies, Body, is_one_too_many, is_transaction_known, most_transactions, AreRising, known_programs, Name, has, declared, transaction_name, programs, program_in, body_named, or_written, program_named}
+use Rattle.policy_rules.proofs.Prelude.{◌∙◌, ap, List, ◌≡◌, sym, ℕ, [], ◌∷◌, refl, ◌++◌, false, Bool, length, subst, true, Some, ◌+◌, arith, ◌<◌, ◌||◌, None, true≢false, ◌≤◌, Option, cond, map, position, suc, ◌≢◌, nat_lt, rules, is_some, nat_eq, option_map, zero, ◌^◌, eqb-false, append-nil, length-append, find_at, cons_option, list_any, position_or_len, SomeIff, find, option_and_then, slice_get, bytes_eq, Entry, Sense, class, filtered, pop, push, transaction, version, each, keep, leaf, node, builtins, Builtin, builtin, same_name, Program, AreFew, bodies, Body, is_one_too_many, is_transaction_known, most_transactions, AreRising, known_programs, Name, has, declared, transaction_name, programs, program_in, body_named, or_written, program_named}
 use Rattle.std.proofs.lemmas.List.Quantifiers.{position-Some}
 use Rattle.policy_rules.proofs.SpaceLaws.{declared-few}
 use Rattle.policy_rules.proofs.Texts.{position-map}
@@ -40,6 +40,7 @@ names_of_bodies ((n, each a s) ∷ es) = names_of_bodies es
 names_of_bodies ((n, push a t) ∷ es) = names_of_bodies es
 names_of_bodies ((n, pop a t) ∷ es) = names_of_bodies es
 names_of_bodies ((n, class a c cs) ∷ es) = names_of_bodies es
+names_of_bodies ((n, filtered a c cs) ∷ es) = names_of_bodies es
 names_of_bodies ((n, leaf a u c l ns) ∷ es) = names_of_bodies es
 names_of_bodies ((n, node a u c ns) ∷ es) = names_of_bodies es
 
@@ -79,6 +80,7 @@ few_push pre (each a r) beyond few = subst (λ (l : List Name). length l ≤ mos
 few_push pre (push a t) beyond few = subst (λ (l : List Name). length l ≤ most_transactions) (sym (append-nil (declared transaction_name pre))) few
 few_push pre (pop a t) beyond few = subst (λ (l : List Name). length l ≤ most_transactions) (sym (append-nil (declared transaction_name pre))) few
 few_push pre (class a c cs) beyond few = subst (λ (l : List Name). length l ≤ most_transactions) (sym (append-nil (declared transaction_name pre))) few
+few_push pre (filtered a c cs) beyond few = subst (λ (l : List Name). length l ≤ most_transactions) (sym (append-nil (declared transaction_name pre))) few
 few_push pre (leaf a u c l ns) beyond few = subst (λ (l : List Name). length l ≤ most_transactions) (sym (append-nil (declared transaction_name pre))) few
 few_push pre (node a u c ns) beyond few = subst (λ (l : List Name). length l ≤ most_transactions) (sym (append-nil (declared transaction_name pre))) few
 

@@ -18,13 +18,14 @@ pub use Rattle.std.specs.Ordering.{nat_cmp}
 pub use Rattle.std.specs.Prelude.{All, filter_map, Err, IfErr, IsErrAnd, MatchResult, Ok, Result, SomeIff, find, option_and_then, slice_get}
 pub use Rattle.std.specs.Str.{bytes_eq}
 pub use Rattle.policy_text_defs.specs.Phrase.{Phrase, choice, negation, number, two, word, depth, phrase_of}
-pub use Rattle.policy_text_defs.specs.Sense.{Entry, sense_of, Sense, class, pop, push, transaction, version, each, keep, leaf, node}
+pub use Rattle.policy_text_defs.specs.Sense.{Entry, sense_of, Sense, class, filter as filtered, pop, push, transaction, version, each, keep, leaf, node}
 pub use Rattle.policy_text_defs.specs.Valid.{IsValid, IsValidSpan}
 pub use Rattle.policy_text_defs.specs.Words.{is_variable, is_name}
 pub use Rattle.policy_text_defs.specs.declared.attribute.Attrs.{Attrs}
 pub use Rattle.policy_text_defs.specs.declared.condition.Condition.{Condition}
+pub use Rattle.policy_text_defs.specs.declared.test.Test.{Test}
 pub use Rattle.policy_text_defs.specs.declared.statement.Statement.{Statement}
-pub use Rattle.policy_text_defs.specs.declared.statement.Statement.TheVariants.{Each, Keep, Leaf, Node, Pop, Push, Version, Class, Transaction}
+pub use Rattle.policy_text_defs.specs.declared.statement.Statement.TheVariants.{Each, Keep, Leaf, Node, Pop, Push, Version, Class, Filter, Transaction}
 pub use Rattle.rank_defs.proofs.Faults.{checked-faultless, SomeAt-append, SomeAt-right, least-unique}
 pub use Rattle.rank_defs.specs.Builtins.{builtins, Builtin, builtin, same_name}
 pub use Rattle.rank_defs.specs.Checks.{AreChecked, Clashes, ClashesFirstAt, DividesByZeroFirstAt, IsWide, IsWideFirstAt, MayDivideByZero, IsChecked, IsLeastAt, NoneAt, SomeAt, entries}

@@ -1,5 +1,5 @@
 -- Programs of sound bodies are shaped.
-use Rattle.policy_rules.proofs.Prelude.{◌∙◌, ap, List, ◌≡◌, sym, ℕ, [], ◌∷◌, refl, ◌++◌, false, Bool, length, subst, true, ◌<◌, inl, inr, ◌||◌, true≢false, ◌≤◌, ◌&&◌, suc, ◌≢◌, codes, if◌then◌else◌, cases_Bool, and_parts, append_assoc, filter_map-append, list_any-append, bytes_eq-Decides, AllByRecursion, filter_map, bytes_eq, Phrase, choice, negation, number, two, word, depth, Entry, class, pop, push, transaction, version, each, keep, leaf, node, IsValidSpan, is_variable, is_name, Program, Assignment, IsShaped, AreDeclared, IsAim, IsDeclared, IsShapedAssignment, IsSpan, Span, IsSoundBody, AreSoundBehind, are_operands_known, Name, has, declared, each_name, keep_name, variable_name, program_in, place, aim_of, each_span, keep_span, pop_in, push_in, variable_of, formula_in}
+use Rattle.policy_rules.proofs.Prelude.{◌∙◌, ap, List, ◌≡◌, sym, ℕ, [], ◌∷◌, refl, ◌++◌, false, Bool, length, subst, true, ◌<◌, inl, inr, ◌||◌, true≢false, ◌≤◌, ◌&&◌, suc, ◌≢◌, codes, if◌then◌else◌, cases_Bool, and_parts, append_assoc, filter_map-append, list_any-append, bytes_eq-Decides, AllByRecursion, filter_map, bytes_eq, Phrase, choice, negation, number, two, word, depth, Entry, class, filtered, pop, push, transaction, version, each, keep, leaf, node, IsValidSpan, is_variable, is_name, Program, Assignment, IsShaped, AreDeclared, IsAim, IsDeclared, IsShapedAssignment, IsSpan, Span, IsSoundBody, AreSoundBehind, are_operands_known, Name, has, declared, each_name, keep_name, variable_name, program_in, place, aim_of, each_span, keep_span, pop_in, push_in, variable_of, formula_in}
 use Rattle.rank_defs.specs.declared.expression.Var.TheVariants as var
 use Rattle.rank_defs.specs.declared.transaction.Aim.TheVariants as aim
 use Rattle.rank_defs.specs.Formulas.{depth_of}
@@ -20,6 +20,7 @@ keep_spans earlier ((n, each a s) ∷ es) sound = keep_spans _ es sound.1
 keep_spans earlier ((n, push a t) ∷ es) sound = keep_spans _ es sound.1
 keep_spans earlier ((n, pop a t) ∷ es) sound = keep_spans _ es sound.1
 keep_spans earlier ((n, class a c cs) ∷ es) sound = keep_spans _ es sound.1
+keep_spans earlier ((n, filtered a c cs) ∷ es) sound = keep_spans _ es sound.1
 keep_spans earlier ((n, leaf a u c l ns) ∷ es) sound = keep_spans _ es sound.1
 keep_spans earlier ((n, node a u c ns) ∷ es) sound = keep_spans _ es sound.1
 
@@ -32,6 +33,7 @@ each_spans earlier ((n, keep a s) ∷ es) sound = each_spans _ es sound.1
 each_spans earlier ((n, push a t) ∷ es) sound = each_spans _ es sound.1
 each_spans earlier ((n, pop a t) ∷ es) sound = each_spans _ es sound.1
 each_spans earlier ((n, class a c cs) ∷ es) sound = each_spans _ es sound.1
+each_spans earlier ((n, filtered a c cs) ∷ es) sound = each_spans _ es sound.1
 each_spans earlier ((n, leaf a u c l ns) ∷ es) sound = each_spans _ es sound.1
 each_spans earlier ((n, node a u c ns) ∷ es) sound = each_spans _ es sound.1
 
@@ -45,6 +47,7 @@ as_many_keeps ((n, each a s) ∷ es) = as_many_keeps es
 as_many_keeps ((n, push a t) ∷ es) = as_many_keeps es
 as_many_keeps ((n, pop a t) ∷ es) = as_many_keeps es
 as_many_keeps ((n, class a c cs) ∷ es) = as_many_keeps es
+as_many_keeps ((n, filtered a c cs) ∷ es) = as_many_keeps es
 as_many_keeps ((n, leaf a u c l ns) ∷ es) = as_many_keeps es
 as_many_keeps ((n, node a u c ns) ∷ es) = as_many_keeps es
 
@@ -57,6 +60,7 @@ as_many_eaches ((n, keep a s) ∷ es) = as_many_eaches es
 as_many_eaches ((n, push a t) ∷ es) = as_many_eaches es
 as_many_eaches ((n, pop a t) ∷ es) = as_many_eaches es
 as_many_eaches ((n, class a c cs) ∷ es) = as_many_eaches es
+as_many_eaches ((n, filtered a c cs) ∷ es) = as_many_eaches es
 as_many_eaches ((n, leaf a u c l ns) ∷ es) = as_many_eaches es
 as_many_eaches ((n, node a u c ns) ∷ es) = as_many_eaches es
 
@@ -81,6 +85,7 @@ either_kind a ((n, transaction b) ∷ es) = either_kind a es
 either_kind a ((n, push b t) ∷ es) = either_kind a es
 either_kind a ((n, pop b t) ∷ es) = either_kind a es
 either_kind a ((n, class b c cs) ∷ es) = either_kind a es
+either_kind a ((n, filtered b c cs) ∷ es) = either_kind a es
 either_kind a ((n, leaf b u c l ns) ∷ es) = either_kind a es
 either_kind a ((n, node b u c ns) ∷ es) = either_kind a es
 
@@ -192,6 +197,7 @@ module _ (all : List Entry) where
   pushes_shaped earlier ((n, version v) ∷ es) is body sound = absurd (true≢false (sym sound.0.body))
   pushes_shaped earlier ((n, transaction a) ∷ es) is body sound = absurd (true≢false (sym sound.0.body))
   pushes_shaped earlier ((n, class a c cs) ∷ es) is body sound = absurd (true≢false (sym sound.0.body))
+  pushes_shaped earlier ((n, filtered a c cs) ∷ es) is body sound = absurd (true≢false (sym sound.0.body))
   pushes_shaped earlier ((n, leaf a u c l ns) ∷ es) is body sound = absurd (true≢false (sym sound.0.body))
   pushes_shaped earlier ((n, node a u c ns) ∷ es) is body sound = absurd (true≢false (sym sound.0.body))
 
@@ -213,6 +219,7 @@ module _ (all : List Entry) where
   pops_shaped earlier ((n, version v) ∷ es) is body sound = absurd (true≢false (sym sound.0.body))
   pops_shaped earlier ((n, transaction a) ∷ es) is body sound = absurd (true≢false (sym sound.0.body))
   pops_shaped earlier ((n, class a c cs) ∷ es) is body sound = absurd (true≢false (sym sound.0.body))
+  pops_shaped earlier ((n, filtered a c cs) ∷ es) is body sound = absurd (true≢false (sym sound.0.body))
   pops_shaped earlier ((n, leaf a u c l ns) ∷ es) is body sound = absurd (true≢false (sym sound.0.body))
   pops_shaped earlier ((n, node a u c ns) ∷ es) is body sound = absurd (true≢false (sym sound.0.body))
 
@@ -225,6 +232,7 @@ module _ (all : List Entry) where
   pops_leave_rank earlier ((n, each a s) ∷ es) sound = pops_leave_rank _ es sound.1
   pops_leave_rank earlier ((n, push a t) ∷ es) sound = pops_leave_rank _ es sound.1
   pops_leave_rank earlier ((n, class a c cs) ∷ es) sound = pops_leave_rank _ es sound.1
+  pops_leave_rank earlier ((n, filtered a c cs) ∷ es) sound = pops_leave_rank _ es sound.1
   pops_leave_rank earlier ((n, leaf a u c l ns) ∷ es) sound = pops_leave_rank _ es sound.1
   pops_leave_rank earlier ((n, node a u c ns) ∷ es) sound = pops_leave_rank _ es sound.1
 

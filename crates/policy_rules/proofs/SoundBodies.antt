@@ -1,5 +1,5 @@
 -- The lines of one body.
-use Rattle.policy_rules.proofs.Prelude.{◌∙◌, ap, List, ◌≡◌, sym, ℕ, [], ◌∷◌, refl, ◌++◌, take, false, Bool, length, subst, true, Some, ◌+◌, arith, ◌<◌, ◌||◌, None, get_or, true≢false, ◌≤◌, Option, drop, suc, ◌≢◌, nat_eq, zero, and_parts, eqb-false, append-nil, length-append, append_assoc, take-append-drop, take_more, filter_map-append, list_all-append, cons_option, list_any, list_all, bytes_eq, Entry, Sense, class, pop, push, transaction, version, each, keep, leaf, node, is_transaction, open_body, is_body, IsSoundBody, AreSoundBehind, IsSoundLine, with_names, is_declared, is_one_too_many, most_variables, Name, has, declared, each_name, keep_name, variable_name}
+use Rattle.policy_rules.proofs.Prelude.{◌∙◌, ap, List, ◌≡◌, sym, ℕ, [], ◌∷◌, refl, ◌++◌, take, false, Bool, length, subst, true, Some, ◌+◌, arith, ◌<◌, ◌||◌, None, get_or, true≢false, ◌≤◌, Option, drop, suc, ◌≢◌, nat_eq, zero, and_parts, eqb-false, append-nil, length-append, append_assoc, take-append-drop, take_more, filter_map-append, list_all-append, cons_option, list_any, list_all, bytes_eq, Entry, Sense, class, filtered, pop, push, transaction, version, each, keep, leaf, node, is_transaction, open_body, is_body, IsSoundBody, AreSoundBehind, IsSoundLine, with_names, is_declared, is_one_too_many, most_variables, Name, has, declared, each_name, keep_name, variable_name}
 use Rattle.policy_rules.proofs.Lines.{declared-push}
 
 -- ---- the open body after the lines of a body
@@ -15,6 +15,7 @@ body_line (n, each a s) is = refl
 body_line (n, push a t) is = refl
 body_line (n, pop a t) is = refl
 body_line (n, class a b cs) is = refl
+body_line (n, filtered a b cs) is = refl
 body_line (n, leaf a u b l ns) is = refl
 body_line (n, node a u b ns) is = refl
 
@@ -72,6 +73,7 @@ no_keep a ((n, each b s) ∷ es) none = no_keep a es (or_right (bytes_eq a b) _ 
 no_keep a ((n, push b t) ∷ es) none = no_keep a es none
 no_keep a ((n, pop b t) ∷ es) none = no_keep a es none
 no_keep a ((n, class b c cs) ∷ es) none = no_keep a es none
+no_keep a ((n, filtered b c cs) ∷ es) none = no_keep a es none
 no_keep a ((n, leaf b u c l ns) ∷ es) none = no_keep a es none
 no_keep a ((n, node b u c ns) ∷ es) none = no_keep a es none
 
@@ -84,6 +86,7 @@ no_each a ((n, each b s) ∷ es) none = or_both (bytes_eq a b) _ _ none (no_each
 no_each a ((n, push b t) ∷ es) none = no_each a es none
 no_each a ((n, pop b t) ∷ es) none = no_each a es none
 no_each a ((n, class b c cs) ∷ es) none = no_each a es none
+no_each a ((n, filtered b c cs) ∷ es) none = no_each a es none
 no_each a ((n, leaf b u c l ns) ∷ es) none = no_each a es none
 no_each a ((n, node b u c ns) ∷ es) none = no_each a es none
 
@@ -101,6 +104,7 @@ keep_new earlier (n, each b s) all new a is = absurd cc
 keep_new earlier (n, push b t) all new a is = absurd cc
 keep_new earlier (n, pop b t) all new a is = absurd cc
 keep_new earlier (n, class b c cs) all new a is = absurd cc
+keep_new earlier (n, filtered b c cs) all new a is = absurd cc
 keep_new earlier (n, leaf b u c l ns) all new a is = absurd cc
 keep_new earlier (n, node b u c ns) all new a is = absurd cc
 
@@ -114,6 +118,7 @@ each_new earlier (n, keep b s) all new a is = absurd cc
 each_new earlier (n, push b t) all new a is = absurd cc
 each_new earlier (n, pop b t) all new a is = absurd cc
 each_new earlier (n, class b c cs) all new a is = absurd cc
+each_new earlier (n, filtered b c cs) all new a is = absurd cc
 each_new earlier (n, leaf b u c l ns) all new a is = absurd cc
 each_new earlier (n, node b u c ns) all new a is = absurd cc
 
@@ -142,6 +147,7 @@ few_keeps-variables ((n, each b s) ∷ es) = longer _ _ (few_keeps-variables es)
 few_keeps-variables ((n, push b t) ∷ es) = few_keeps-variables es
 few_keeps-variables ((n, pop b t) ∷ es) = few_keeps-variables es
 few_keeps-variables ((n, class b c cs) ∷ es) = few_keeps-variables es
+few_keeps-variables ((n, filtered b c cs) ∷ es) = few_keeps-variables es
 few_keeps-variables ((n, leaf b u c l ns) ∷ es) = few_keeps-variables es
 few_keeps-variables ((n, node b u c ns) ∷ es) = few_keeps-variables es
 
@@ -154,6 +160,7 @@ few_eaches-variables ((n, each b s) ∷ es) = omega (arith, few_eaches-variables
 few_eaches-variables ((n, push b t) ∷ es) = few_eaches-variables es
 few_eaches-variables ((n, pop b t) ∷ es) = few_eaches-variables es
 few_eaches-variables ((n, class b c cs) ∷ es) = few_eaches-variables es
+few_eaches-variables ((n, filtered b c cs) ∷ es) = few_eaches-variables es
 few_eaches-variables ((n, leaf b u c l ns) ∷ es) = few_eaches-variables es
 few_eaches-variables ((n, node b u c ns) ∷ es) = few_eaches-variables es
 
@@ -174,6 +181,7 @@ room earlier (n, pop b t) all few is beyond = subst (λ (l : List Name). length 
 room earlier (n, version v) all few is beyond = absurd (true≢false (sym is))
 room earlier (n, transaction b) all few is beyond = absurd (true≢false (sym is))
 room earlier (n, class b c cs) all few is beyond = absurd (true≢false (sym is))
+room earlier (n, filtered b c cs) all few is beyond = absurd (true≢false (sym is))
 room earlier (n, leaf b u c l ns) all few is beyond = absurd (true≢false (sym is))
 room earlier (n, node b u c ns) all few is beyond = absurd (true≢false (sym is))
 

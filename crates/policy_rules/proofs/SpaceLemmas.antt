@@ -34,11 +34,11 @@ module _ (earlier : List Entry) (spaces : Spaces) (are : AreSpaces earlier space
     nodes_are = space-same node_name earlier here spaces.nodes are.nodes_are (ap node_name is);
   }
 
-  pub class-more : (a : Name) (m : Attrs) (conditions : List Condition) (cs' : List Name) → sense_of s ≡ class a m conditions → cs' ≡ with_name spaces.classes a → AreSpaces (earlier ++ here ∷ []) (record spaces { classes = cs' })
-  class-more a m conditions cs' is after = record {
-    transactions_are = space-same transaction_name earlier here spaces.transactions are.transactions_are (ap transaction_name is);
-    classes_are = space-more class_name earlier here spaces.classes are.classes_are a cs' (ap class_name is) (sym (ap (is_declared earlier) is) ∙ new) after;
-    nodes_are = space-same node_name earlier here spaces.nodes are.nodes_are (ap node_name is);
+  pub class-more : (a : Name) (cs' : List Name) (form : Sense) → sense_of s ≡ form → transaction_name form ≡ None → class_name form ≡ Some a → node_name form ≡ None → is_declared earlier form ≡ has (declared class_name earlier) a → cs' ≡ with_name spaces.classes a → AreSpaces (earlier ++ here ∷ []) (record spaces { classes = cs' })
+  class-more a cs' form is no_transaction class_is no_node tested after = record {
+    transactions_are = space-same transaction_name earlier here spaces.transactions are.transactions_are (ap transaction_name is ∙ no_transaction);
+    classes_are = space-more class_name earlier here spaces.classes are.classes_are a cs' (ap class_name is ∙ class_is) (sym (ap (is_declared earlier) is ∙ tested) ∙ new) after;
+    nodes_are = space-same node_name earlier here spaces.nodes are.nodes_are (ap node_name is ∙ no_node);
   }
 
   pub node-more : (a : Name) (ns' : List Name) (form : Sense) → sense_of s ≡ form → transaction_name form ≡ None → class_name form ≡ None → node_name form ≡ Some a → is_declared earlier form ≡ has (declared node_name earlier) a

@@ -1,5 +1,5 @@
 -- Statements have sound bodies if no clause up to the limits rejects them.
-use Rattle.policy_rules.proofs.Prelude.{◌∙◌, ap, List, ◌≡◌, sym, ℕ, [], ◌∷◌, refl, ◌++◌, take, false, Bool, length, subst, true, not, ◌+◌, arith, ◌<◌, get_or, true≢false, cond, drop, false_from_ne_true, length-append, append_assoc, take-append-drop, drop_more, get_or_at, take_at, take_while-cons, AllByRecursion, All, Entry, Sense, class, pop, push, transaction, version, each, keep, leaf, node, IsValid, AreFew, open_body, bodies, is_body, opened, IsSoundBody, AreSoundBehind, IsSoundLine, is_declared, is_one_too_many, is_known, AreRising, before}
+use Rattle.policy_rules.proofs.Prelude.{◌∙◌, ap, List, ◌≡◌, sym, ℕ, [], ◌∷◌, refl, ◌++◌, take, false, Bool, length, subst, true, not, ◌+◌, arith, ◌<◌, get_or, true≢false, cond, drop, false_from_ne_true, length-append, append_assoc, take-append-drop, drop_more, get_or_at, take_at, take_while-cons, AllByRecursion, All, Entry, Sense, class, filtered, pop, push, transaction, version, each, keep, leaf, node, IsValid, AreFew, open_body, bodies, is_body, opened, IsSoundBody, AreSoundBehind, IsSoundLine, is_declared, is_one_too_many, is_known, AreRising, before}
 use Rattle.std.specs.Prelude.{take_while}
 use Rattle.policy_rules.proofs.EarlierLines.{before-take}
 use Rattle.policy_rules.proofs.Lists.{all-append}
@@ -17,6 +17,7 @@ module _ (a b : List Entry) (same : open_body a ≡ open_body b) where
   declared_alike (version v) is = absurd (true≢false (sym is))
   declared_alike (transaction n) is = absurd (true≢false (sym is))
   declared_alike (class n c cs) is = absurd (true≢false (sym is))
+  declared_alike (filtered n c cs) is = absurd (true≢false (sym is))
   declared_alike (leaf n u c l ns) is = absurd (true≢false (sym is))
   declared_alike (node n u c ns) is = absurd (true≢false (sym is))
 
@@ -28,6 +29,7 @@ module _ (a b : List Entry) (same : open_body a ≡ open_body b) where
   known_alike es (version v) is = absurd (true≢false (sym is))
   known_alike es (transaction n) is = absurd (true≢false (sym is))
   known_alike es (class n c cs) is = absurd (true≢false (sym is))
+  known_alike es (filtered n c cs) is = absurd (true≢false (sym is))
   known_alike es (leaf n u c l ns) is = absurd (true≢false (sym is))
   known_alike es (node n u c ns) is = absurd (true≢false (sym is))
 
@@ -39,6 +41,7 @@ module _ (a b : List Entry) (same : open_body a ≡ open_body b) where
   beyond_alike (version v) is = absurd (true≢false (sym is))
   beyond_alike (transaction n) is = absurd (true≢false (sym is))
   beyond_alike (class n c cs) is = absurd (true≢false (sym is))
+  beyond_alike (filtered n c cs) is = absurd (true≢false (sym is))
   beyond_alike (leaf n u c l ns) is = absurd (true≢false (sym is))
   beyond_alike (node n u c ns) is = absurd (true≢false (sym is))
 
@@ -94,6 +97,7 @@ module _ (es : List Entry) (rising : AreRising es) (few : AreFew es) (valid : Al
   sound_opened pre rest (n, push a t) is = tt
   sound_opened pre rest (n, pop a t) is = tt
   sound_opened pre rest (n, class a c cs) is = tt
+  sound_opened pre rest (n, filtered a c cs) is = tt
   sound_opened pre rest (n, leaf a u c l ns) is = tt
   sound_opened pre rest (n, node a u c ns) is = tt
 

@@ -7,7 +7,7 @@ use Rattle.tree_defs.specs.Tree.{most_nodes}
 use Rattle.rank_defs.specs.Builtins.{builtin}
 use Rattle.policy_text_defs.specs.Words.{is_variable}
 use Rattle.policy_text_defs.specs.Phrase.{Phrase, number, word, two, negation, choice}
-use Rattle.policy_text_defs.specs.Sense.{Sense, Entry, version, transaction, keep, each, push, pop, class, leaf, node}
+use Rattle.policy_text_defs.specs.Sense.{Sense, Entry, version, transaction, keep, each, push, pop, class, filter as filtered, leaf, node}
 use Rattle.policy_rules.specs.Names.{Name, has, is_once, transaction_name, class_name, node_name, variable_name, declared, children, leaf_classes, listed, before}
 use Rattle.policy_rules.specs.Bodies.{stage, is_body, is_assignment, open_body}
 
@@ -59,6 +59,7 @@ is_declared earlier (each n s) = has (declared variable_name (open_body earlier)
 is_declared earlier (push n t) = false
 is_declared earlier (pop n t) = false
 is_declared earlier (class n a cs) = has (declared class_name earlier) n
+is_declared earlier (filtered n a ts) = has (declared class_name earlier) n
 is_declared earlier (leaf n u a l ns) = has (declared node_name earlier) n
 is_declared earlier (node n u a ns) = has (declared node_name earlier) n
 
@@ -118,6 +119,7 @@ is_one_too_many earlier (each n s) = length (declared variable_name (open_body e
 is_one_too_many earlier (push n t) = assignments_in (open_body earlier) == most_assignments
 is_one_too_many earlier (pop n t) = assignments_in (open_body earlier) == most_assignments
 is_one_too_many earlier (class n a cs) = length (declared class_name earlier) == most_classes
+is_one_too_many earlier (filtered n a ts) = length (declared class_name earlier) == most_classes
 is_one_too_many earlier (leaf n u a l ns) = length (declared node_name earlier) == most_nodes
 is_one_too_many earlier (node n u a ns) = length (declared node_name earlier) == most_nodes
 
@@ -150,7 +152,9 @@ IsNotListedOnce entries e = IsTrue (is_not_listed_once (listed leaf_classes entr
 abbrev pub has_catch_all_behind : Bool → List Entry → Bool
 has_catch_all_behind found [] = found
 has_catch_all_behind found ((n, class c a []) ∷ es) = has_catch_all_behind true es
+has_catch_all_behind found ((n, filtered c a []) ∷ es) = has_catch_all_behind true es
 has_catch_all_behind found ((n, class c a (x ∷ cs)) ∷ es) = has_catch_all_behind false es
+has_catch_all_behind found ((n, filtered c a (x ∷ cs)) ∷ es) = has_catch_all_behind false es
 has_catch_all_behind found (e ∷ es) = has_catch_all_behind found es
 
 abbrev pub has_catch_all : List Entry → Bool

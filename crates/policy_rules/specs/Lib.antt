@@ -5,6 +5,7 @@ pub mod Families
 pub mod Programs
 pub mod Accepted
 pub mod Codes
+pub mod Alternatives
 pub mod Resolved
 pub mod Graph
 pub mod Entries

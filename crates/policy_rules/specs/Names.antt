@@ -2,7 +2,7 @@
 use Rattle.std.specs.Prelude.{ℕ, nat_lt, nat_eq, Bool, Option, Some, None, List, [], filter, count_by, filter_map, flat_map}
 use Rattle.std.specs.List.{list_any}
 use Rattle.std.specs.Str.{bytes_eq}
-use Rattle.policy_text_defs.specs.Sense.{Sense, Entry, transaction, keep, each, class, leaf, node}
+use Rattle.policy_text_defs.specs.Sense.{Sense, Entry, transaction, keep, each, class, filter as filtered, leaf, node}
 
 abbrev pub Name : Type 0
 Name = List ℕ
@@ -26,6 +26,7 @@ transaction_name s = None
 
 abbrev pub class_name : Sense → Option Name
 class_name (class n a cs) = Some n
+class_name (filtered n a ts) = Some n
 class_name s = None
 
 abbrev pub node_name : Sense → Option Name

@@ -2,17 +2,19 @@
 use Rattle.std.specs.Prelude.{◌≡◌, ℕ, Option, Some, None, unwrap_or, List, [], ◌∷◌, map, Any, Contains, filter_map}
 use Rattle.tree_defs.specs.Tree.{Tree, leaf as leaf_of, inner, Trees, none, more, Address, LeadsToLeaf, root_of}
 use Rattle.policy_text_defs.specs.declared.attribute.Attrs.{Attrs}
-use Rattle.policy_text_defs.specs.declared.condition.Condition.{Condition}
-use Rattle.policy_text_defs.specs.Sense.{Sense, Entry, class, leaf, node}
+use Rattle.policy_text_defs.specs.declared.test.Test.{Test}
+use Rattle.policy_text_defs.specs.Sense.{Sense, Entry, class, filter as filtered, leaf, node}
 use Rattle.policy_defs.specs.Policy.{Policy, Node, Class, Marks, no_marks, node_at}
 use Rattle.policy_rules.specs.Names.{Name}
 use Rattle.policy_rules.specs.Clauses.{root, version_of}
 use Rattle.policy_rules.specs.Programs.{program_named}
+use Rattle.policy_rules.specs.Alternatives.{alternatives_of}
 
--- a policy, with the conditions of its classes in order
+-- a policy, with the conditions of its classes in order: for each class its alternatives, of which
+-- one must hold; without any, each packet belongs to the class
 pub record Resolved : Type 0 where
   pub policy : Policy
-  pub conditions : List (List Condition)
+  pub conditions : List (List (List Test))
 
 -- the marks that attributes set; the others have their defaults
 abbrev pub marks_of : Attrs → Marks
@@ -66,10 +68,11 @@ pub record IsLeafFor (entries : List Entry) (tree : Tree Node) (class_name : Nam
 pub record Declared : Type 0 where
   pub name : Name
   pub marks : Marks
-  pub conditions : List Condition
+  pub conditions : List (List Test)
 
 abbrev pub class_in : Sense → Option Declared
-class_in (class n a cs) = Some (record { name = n; marks = marks_of a; conditions = cs })
+class_in (class n a cs) = Some (record { name = n; marks = marks_of a; conditions = alternatives_of cs })
+class_in (filtered n a ts) = Some (record { name = n; marks = marks_of a; conditions = ts })
 class_in s = None
 
 abbrev pub classes_in : List Entry → List Declared

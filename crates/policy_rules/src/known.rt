@@ -85,7 +85,8 @@ fn is_known(spaces: &Spaces, variables: &Names, statement: &Statement) -> bool
         | Statement::Transaction(_)
         | Statement::Keep(..)
         | Statement::Each(..)
-        | Statement::Class(..) => true,
+        | Statement::Class(..)
+        | Statement::Filter(..) => true,
     }
 }
 

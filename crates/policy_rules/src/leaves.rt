@@ -19,7 +19,9 @@ fn is_not_listed_once(tally: &Tally, statement: &Statement) -> bool
         is_not_listed_once all (sense_of statement.now) }
 {
     match statement {
-        Statement::Class(name, _, _) => !tally.is_once(name.as_str()),
+        Statement::Class(name, _, _) | Statement::Filter(name, _, _) => {
+            !tally.is_once(name.as_str())
+        }
         _ => false,
     }
 }
@@ -45,8 +47,10 @@ fn has_catch_all(lines: &[(u32, Statement)]) -> bool
 {
     let mut found = false;
     for (_, statement) in lines {
-        if let Statement::Class(_, _, conditions) = statement {
-            found = conditions.is_empty();
+        match statement {
+            Statement::Class(_, _, conditions) => found = conditions.is_empty(),
+            Statement::Filter(_, _, alternatives) => found = alternatives.is_empty(),
+            _ => {}
         }
     }
     found

@@ -19,6 +19,7 @@ fn is_placed(last: Option<&Statement>, statement: &Statement) -> bool
         Statement::Version(_) => false,
         Statement::Transaction(_)
         | Statement::Class(..)
+        | Statement::Filter(..)
         | Statement::Leaf(..)
         | Statement::Node(..) => true,
         Statement::Keep(..) | Statement::Each(..) => matches!(

@@ -69,7 +69,7 @@ impl Room {
             }
             Statement::Keep(..) | Statement::Each(..) => take_one(&mut self.variables),
             Statement::Push(..) | Statement::Pop(..) => take_one(&mut self.assignments),
-            Statement::Class(..) => take_one(&mut self.classes),
+            Statement::Class(..) | Statement::Filter(..) => take_one(&mut self.classes),
             Statement::Leaf(..) | Statement::Node(..) => take_one(&mut self.nodes),
         }
     }

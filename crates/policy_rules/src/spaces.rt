@@ -47,7 +47,9 @@ impl<'a> Spaces<'a> {
             Statement::Keep(name, _) | Statement::Each(name, _) => {
                 variables.contains(name.as_str())
             }
-            Statement::Class(name, _, _) => self.classes.contains(name.as_str()),
+            Statement::Class(name, _, _) | Statement::Filter(name, _, _) => {
+                self.classes.contains(name.as_str())
+            }
             Statement::Leaf(name, _, _, _, _) | Statement::Node(name, _, _, _) => {
                 self.nodes.contains(name.as_str())
             }
@@ -63,7 +65,7 @@ impl<'a> Spaces<'a> {
                 self.transactions.add(name.as_str())?;
                 Ok(())
             }
-            Statement::Class(name, _, _) => {
+            Statement::Class(name, _, _) | Statement::Filter(name, _, _) => {
                 self.classes.add(name.as_str())?;
                 Ok(())
             }

@@ -26,6 +26,7 @@ pub fn variables_after<'a>(
         | Statement::Push(..)
         | Statement::Pop(..)
         | Statement::Class(..)
+        | Statement::Filter(..)
         | Statement::Leaf(..)
         | Statement::Node(..) => Ok(variables),
     }

@@ -3,24 +3,28 @@ use Rattle.std.specs.Prelude.{◌≡◌, ◌⊎◌, ℕ, ◌<◌, List, [], ◌�
 use Rattle.std.specs.List.{list_all}
 use Rattle.text_core.specs.Tokens.{is_blank}
 use Rattle.text_core.specs.Glyphs.{Glyph}
-use Rattle.text_core.specs.Says.{Says}
+use Rattle.text_core.specs.Says.{SaysIn}
 use Rattle.policy_text_defs.specs.declared.statement.Statement.{Statement}
+use Rattle.policy_text_defs.specs.declared.edition.Edition.{Edition}
+use Rattle.policy_text_defs.specs.declared.edition.Mode.{Mode}
+use Rattle.policy_text_defs.specs.Editions.{dialect_at}
 use Rattle.policy_text_defs.specs.Ranges.{most_text}
 use Rattle.policy_text_defs.specs.Sense.{Sense, Entry, sense_of}
-use Rattle.policy_text_defs.specs.Statements.{IsForm}
-use Rattle.policy_text_defs.specs.Text.{Carries, not_text, shaping, syntax_fault, IsFault, HasEntries, IsFirstFault}
+use Rattle.policy_text_defs.specs.Statements.{IsFormAt}
+use Rattle.policy_text_defs.specs.Text.{CarriesAt, not_text, shaping, syntax_fault, IsFault, HasEntries, IsFirstFault}
 use Rattle.policy_text.specs.declared.lines.Lines.{Lines}
 use Rattle.policy_text.specs.declared.fault.TextFault.{TextFault}
 use Rattle.policy_text.specs.declared.fault.TextFault.TheVariants as fault
 use Rattle.policy_text.specs.Entries.{Numbered, entry_of}
 
--- the cause for which a text is rejected with this error; `NoMemory` has no cause
-abbrev pub IsCause : List ℕ → TextFault → Type 0
-IsCause text fault.TooLong = most_text < length text
-IsCause text (fault.NotText n) = IsFirstFault text n not_text
-IsCause text (fault.Syntax n) = IsFirstFault text n syntax_fault
-IsCause text (fault.Shaping n) = IsFirstFault text n shaping
-IsCause text fault.NoMemory = ⊥
+-- the cause for which a reader of the editions up to `latest` rejects a text with this error;
+-- `NoMemory` has no cause
+abbrev pub IsCause : Edition → List ℕ → TextFault → Type 0
+IsCause latest text fault.TooLong = most_text < length text
+IsCause latest text (fault.NotText n) = IsFirstFault latest text n not_text
+IsCause latest text (fault.Syntax n) = IsFirstFault latest text n syntax_fault
+IsCause latest text (fault.Shaping n) = IsFirstFault latest text n shaping
+IsCause latest text fault.NoMemory = ⊥
 
 -- the error is that memory ran out
 abbrev pub IsWant : TextFault → Type 0
@@ -28,9 +32,9 @@ IsWant fault.NoMemory = Unit {0}
 IsWant _ = ⊥
 
 -- an error has its cause, unless memory ran out
-abbrev pub HasCause : List ℕ → TextFault → Type 0
-HasCause text fault.NoMemory = Unit {0}
-HasCause text f = IsCause text f
+abbrev pub HasCause : Edition → List ℕ → TextFault → Type 0
+HasCause latest text fault.NoMemory = Unit {0}
+HasCause latest text f = IsCause latest text f
 
 -- the result is these statements, unless memory ran out
 abbrev pub Gives : Result Lines TextFault → List Entry → Type 0
@@ -43,37 +47,37 @@ Fails (Ok lines) f = ⊥
 Fails (Err e) f = (e ≡ f) ⊎ IsWant e
 
 -- a text whose lines parse gives its statements
-abbrev pub AcceptsAll : List ℕ → Result Lines TextFault → Type 0
-AcceptsAll text result = (es : List Entry) → HasEntries text es → Gives result es
+abbrev pub AcceptsAll : Edition → List ℕ → Result Lines TextFault → Type 0
+AcceptsAll latest text result = (es : List Entry) → HasEntries latest text es → Gives result es
 
 -- a text with the cause of an error is rejected with this error
-abbrev pub RefusesAll : List ℕ → Result Lines TextFault → Type 0
-RefusesAll text result = (f : TextFault) → IsCause text f → Fails result f
+abbrev pub RefusesAll : Edition → List ℕ → Result Lines TextFault → Type 0
+RefusesAll latest text result = (f : TextFault) → IsCause latest text f → Fails result f
 
 -- ---- one line
 
 -- the line's tokens have the form of the statement
-pub record HasForm (line : List ℕ) (s : Sense) : Type 0 where
+pub record HasForm (m : Mode) (line : List ℕ) (s : Sense) : Type 0 where
   pub tokens : List Glyph
-  pub says : Says line tokens
-  pub form : IsForm tokens s
+  pub says : SaysIn (dialect_at m) line tokens
+  pub form : IsFormAt m tokens s
 
 -- the error of the line with this number; it may also be that memory ran out
-abbrev pub LineFault : List ℕ → ℕ → TextFault → Type 0
-LineFault line n fault.TooLong = ⊥
-LineFault line n (fault.NotText m) = (m ≡ n) × IsFault line not_text
-LineFault line n (fault.Syntax m) = (m ≡ n) × IsFault line syntax_fault
-LineFault line n (fault.Shaping m) = (m ≡ n) × IsFault line shaping
-LineFault line n fault.NoMemory = Unit {0}
+abbrev pub LineFault : Mode → List ℕ → ℕ → TextFault → Type 0
+LineFault m line n fault.TooLong = ⊥
+LineFault m line n (fault.NotText k) = (k ≡ n) × IsFault m line not_text
+LineFault m line n (fault.Syntax k) = (k ≡ n) × IsFault m line syntax_fault
+LineFault m line n (fault.Shaping k) = (k ≡ n) × IsFault m line shaping
+LineFault m line n fault.NoMemory = Unit {0}
 
 -- the statement of a line, or none if the line is blank
-abbrev pub LineHas : List ℕ → Option Statement → Type 0
-LineHas line None = list_all is_blank line ≡ true
-LineHas line (Some t) = Carries line (sense_of t)
+abbrev pub LineHas : Mode → List ℕ → Option Statement → Type 0
+LineHas m line None = list_all is_blank line ≡ true
+LineHas m line (Some t) = CarriesAt m line (sense_of t)
 
-abbrev pub LineIs : List ℕ → ℕ → Result (Option Statement) TextFault → Type 0
-LineIs line n (Ok found) = LineHas line found
-LineIs line n (Err e) = LineFault line n e
+abbrev pub LineIs : Mode → List ℕ → ℕ → Result (Option Statement) TextFault → Type 0
+LineIs m line n (Ok found) = LineHas m line found
+LineIs m line n (Err e) = LineFault m line n e
 
 -- the statement found on a line is appended, if there is one
 abbrev pub Kept : ℕ → Option Statement → List Numbered → List Numbered → Type 0

@@ -37,7 +37,7 @@ fn protocol(word: &[u8]) -> Result<Condition, Refusal>
 impl<'a> Cursor<'a> {
     /// Reads the number after `..`, or returns the low one if no `..` follows.
     #[tactic(auto, unfolding(policy_text_defs::specs::StatementReading::upper))]
-    fn upper(&mut self, low: u64) -> Result<u64, Refusal>
+    pub fn upper(&mut self, low: u64) -> Result<u64, Refusal>
         ensures { Reads same (forms.upper low) result self.old.rest.now self.new.rest.now }
     {
         if self.takes_mark(Mark::DotDot) {
@@ -71,7 +71,7 @@ impl<'a> Cursor<'a> {
 
     /// Reads `N.N.N.N`.
     #[tactic(auto, unfolding(policy_text_defs::specs::StatementReading::address))]
-    fn address(&mut self) -> Result<u32, Refusal>
+    pub fn address(&mut self) -> Result<u32, Refusal>
         ensures { Reads same forms.address result self.old.rest.now self.new.rest.now }
     {
         let first = self.number_to(MOST_OCTET)?;
@@ -86,7 +86,7 @@ impl<'a> Cursor<'a> {
 
     /// Reads the number after `/`, or returns the greatest length if no `/` follows.
     #[tactic(auto, unfolding(policy_text_defs::specs::StatementReading::prefix_length))]
-    fn prefix_length(&mut self) -> Result<u32, Refusal>
+    pub fn prefix_length(&mut self) -> Result<u32, Refusal>
         ensures { Reads same forms.prefix_length result self.old.rest.now self.new.rest.now }
     {
         if self.takes_mark(Mark::Slash) {

@@ -2,11 +2,14 @@
 //! specs/Parsing.antt.
 #![tactic(auto)]
 
+mod address;
+mod alternatives;
 mod conditions;
 mod cursor;
 mod fault;
 mod line;
 mod lines;
+mod names;
 mod parser;
 mod part;
 mod printing;
@@ -15,6 +18,6 @@ mod text;
 
 pub use fault::TextFault;
 pub use lines::Lines;
-pub use policy_text_defs::{Attrs, Condition, FieldName, Statement, Term};
+pub use policy_text_defs::{Attrs, Condition, Edition, FieldName, Statement, Term};
 pub use printing::print;
-pub use text::{MOST_TEXT, parse};
+pub use text::{MOST_TEXT, parse, parse_to};

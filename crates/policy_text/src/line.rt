@@ -10,9 +10,9 @@ ghost use Rattle.text_core.specs.Tokens.{is_blank, is_word_byte};
 
 use crate::fault::TextFault;
 use crate::statements::parse_statement;
-use policy_text_defs::{Statement, is};
+use policy_text_defs::{Mode, Statement, is};
 use std::alloc::Global;
-use text_core::{Refusal, items};
+use text_core::{Refusal, items_in};
 
 fn is_blank(byte: u8) -> bool
     ensures { result ≡ is_blank byte }
@@ -57,12 +57,12 @@ fn is_shaping(line: &[u8]) -> bool
 }
 
 /// Returns the statement that the tokens of a line form.
-fn statement_of(alloc: Global, line: &[u8]) -> Result<Statement, Refusal>
-    ensures found { IfOk result (λ t. HasForm line.now (sense_of t)) }
-    ensures only { (s : Sense) → HasForm line.now s → States result s }
+fn statement_of(alloc: Global, line: &[u8], mode: Mode) -> Result<Statement, Refusal>
+    ensures found { IfOk result (λ t. HasForm mode line.now (sense_of t)) }
+    ensures only { (s : Sense) → HasForm mode line.now s → States result s }
 {
-    let items = items(alloc, line)?;
-    parse_statement(alloc, items.as_slice())
+    let items = items_in(alloc, line, mode.dialect())?;
+    parse_statement(alloc, items.as_slice(), mode)
 }
 
 /// Returns the statement of the line with this number, or `None` if the line is blank.
@@ -71,9 +71,10 @@ pub fn read_line(
     line: &[u8],
     clean: bool,
     number: u32,
+    mode: Mode,
 ) -> Result<Option<Statement>, TextFault>
     requires { clean ≡ is_clean_text line.now }
-    ensures { LineIs line.now number result }
+    ensures { LineIs mode line.now number result }
 {
     if !clean {
         return Err(TextFault::NotText(number));
@@ -84,7 +85,7 @@ pub fn read_line(
     if are_blanks(line) {
         return Ok(None);
     }
-    match statement_of(alloc, line) {
+    match statement_of(alloc, line, mode) {
         Ok(statement) => Ok(Some(statement)),
         Err(Refusal::NoForm) => Err(TextFault::Syntax(number)),
         Err(Refusal::NoMemory) => Err(TextFault::NoMemory),

@@ -1,7 +1,7 @@
 //! Statements with their line numbers.
-ghost use Rattle.std.specs.Prelude.{◌≡◌, ℕ, ◌<◌, ◌^◌, List, map, length, All, IfOk};
+ghost use Rattle.std.specs.Prelude.{◌≡◌, ℕ, ◌<◌, ◌^◌, List, map, length, IfOk};
 ghost use Rattle.policy_text_defs.specs.Sense.{sense_of, numbered};
-ghost use Rattle.policy_text_defs.specs.Text.{IsWritten};
+ghost use Rattle.policy_text_defs.specs.Text as text;
 ghost use Rattle.policy_text.specs.Entries.{entry_of, IsRising, AreWritten};
 
 use list_core::List;
@@ -19,7 +19,7 @@ pub struct Lines {
 impl Lines {
     /// Numbers the statements from line 1.
     pub fn of(alloc: Global, statements: List<Statement>) -> Result<Lines, AllocError>
-        requires written { All (λ s. IsWritten (sense_of s)) statements }
+        requires written { text.AreWritten (map sense_of statements) }
         requires few { length statements < 2 ^ 32 }
         ensures { IfOk result (λ lines. map entry_of lines.held ≡
             numbered 1 (map sense_of statements)) }

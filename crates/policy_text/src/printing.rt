@@ -3,6 +3,7 @@
 mod condition;
 mod expression;
 mod statement;
+mod test;
 
 ghost use Rattle.std.specs.Prelude.{◌≡◌, ◌++◌, map, IfOk, OnOk, codes};
 ghost use Rattle.policy_text_defs.specs.Sense.{sense_of};

@@ -4,24 +4,24 @@ ghost use Rattle.policy_text_defs.specs.declared.keyword.Keyword.TheVariants as 
 ghost use Rattle.policy_text_defs.specs.Ranges.{attribute_most};
 ghost use Rattle.policy_text_defs.specs.Sense.{Sense, sense_of};
 ghost use Rattle.policy_text_defs.specs.StatementReading as forms;
-ghost use Rattle.policy_text_defs.specs.Statements.{IsForm, with_attribute};
+ghost use Rattle.policy_text_defs.specs.Statements.{IsFormAt, with_attribute};
 ghost use Rattle.policy_text.specs.Reads.{Reads, Makes, same};
 ghost use Rattle.policy_text.specs.States.{States};
 ghost use Rattle.text_core.specs.Glyphs.{glyphs_of};
 
+use crate::alternatives::test_guard;
 use crate::conditions::guard;
 use crate::cursor::Cursor;
+use crate::names::has_names;
 use crate::parser::expression;
 use crate::part::{MOST_OPEN, Part};
 use list_core::{List, Name};
-use policy_text_defs::{Attribute, Attrs, Keyword, Statement};
+use policy_text_defs::{Attribute, Attrs, Edition, Keyword, Mode, Statement};
 use rank_defs::Span;
 use std::alloc::Global;
 use text_core::{Item, Mark, Refusal};
 
 const FIRST_VERSION: u64 = 1;
-
-const LAST_VERSION: u64 = 2;
 
 /// The least limit of a leaf, in packets.
 const LIMIT_LEAST: u64 = 1;
@@ -137,12 +137,12 @@ fn names(alloc: Global, cursor: &mut Cursor<'_>) -> Result<List<Name>, Refusal>
 }
 
 #[tactic(auto, unfolding(policy_text_defs::specs::StatementReading::version_by))]
-fn version(cursor: &mut Cursor<'_>) -> Result<Statement, Refusal>
-    ensures { Reads sense_of (forms.rest_by (Some keyword.Policy)) result cursor.old.rest.now
+fn version(cursor: &mut Cursor<'_>, mode: Mode) -> Result<Statement, Refusal>
+    ensures { Reads sense_of (forms.rest_by mode (Some keyword.Policy)) result cursor.old.rest.now
         cursor.new.rest.now }
 {
     let version = cursor.number()?;
-    if version < FIRST_VERSION || version > LAST_VERSION {
+    if version < FIRST_VERSION || version > u64::from(mode.last_version()) {
         return Err(Refusal::NoForm);
     }
     Ok(Statement::Version(version as u32))
@@ -204,6 +204,27 @@ fn class(alloc: Global, cursor: &mut Cursor<'_>) -> Result<Statement, Refusal>
     Ok(Statement::Class(Name::new(alloc, name)?, attrs, conditions))
 }
 
+#[tactic(auto, unfolding(policy_text_defs::specs::StatementReading::filter_rest))]
+fn filter(alloc: Global, cursor: &mut Cursor<'_>) -> Result<Statement, Refusal>
+    ensures { Reads sense_of forms.filter_rest result cursor.old.rest.now cursor.new.rest.now }
+{
+    let name = cursor.name()?;
+    let attrs = cursor.attributes()?;
+    let alternatives = test_guard(alloc, cursor)?;
+    Ok(Statement::Filter(Name::new(alloc, name)?, attrs, alternatives))
+}
+
+/// Reads a class of the edition in which the line is read.
+fn class_by(alloc: Global, cursor: &mut Cursor<'_>, mode: Mode) -> Result<Statement, Refusal>
+    ensures { Reads sense_of (forms.class_by mode) result cursor.old.rest.now
+        cursor.new.rest.now }
+{
+    match mode {
+        Mode::Opening(_) | Mode::Within(Edition::Classic) => class(alloc, cursor),
+        Mode::Within(Edition::Third) => filter(alloc, cursor),
+    }
+}
+
 #[tactic(auto, unfolding(policy_text_defs::specs::StatementReading::leaf_rest))]
 fn leaf(alloc: Global, cursor: &mut Cursor<'_>) -> Result<Statement, Refusal>
     ensures { Reads sense_of forms.leaf_rest result cursor.old.rest.now cursor.new.rest.now }
@@ -233,31 +254,44 @@ fn node(alloc: Global, cursor: &mut Cursor<'_>) -> Result<Statement, Refusal>
     Ok(Statement::Node(Name::new(alloc, name)?, used, attrs, children))
 }
 
-#[tactic(auto, unfolding(policy_text_defs::specs::StatementReading::a_statement))]
-fn statement(alloc: Global, cursor: &mut Cursor<'_>) -> Result<Statement, Refusal>
-    ensures { Reads sense_of forms.a_statement result cursor.old.rest.now cursor.new.rest.now }
+/// Reads a statement whose names may be those of either edition.
+#[tactic(auto, unfolding(policy_text_defs::specs::StatementReading::a_form))]
+fn form(alloc: Global, cursor: &mut Cursor<'_>, mode: Mode) -> Result<Statement, Refusal>
+    ensures { Reads sense_of (forms.a_form mode) result cursor.old.rest.now cursor.new.rest.now }
 {
     match Keyword::of(cursor.word()?) {
-        Some(Keyword::Policy) => version(cursor),
+        Some(Keyword::Policy) => version(cursor, mode),
         Some(Keyword::Transaction) => transaction(alloc, cursor),
         Some(Keyword::Keep) => keep(alloc, cursor),
         Some(Keyword::Each) => each(alloc, cursor),
         Some(Keyword::Push) => push(alloc, cursor),
         Some(Keyword::Pop) => pop(alloc, cursor),
-        Some(Keyword::Class) => class(alloc, cursor),
+        Some(Keyword::Class) => class_by(alloc, cursor, mode),
         Some(Keyword::Leaf) => leaf(alloc, cursor),
         Some(Keyword::Node) => node(alloc, cursor),
         None => Err(Refusal::NoForm),
     }
 }
 
+#[tactic(auto, unfolding(policy_text_defs::specs::StatementReading::a_statement, policy_text_defs::specs::StatementReading::named_at))]
+fn statement(alloc: Global, cursor: &mut Cursor<'_>, mode: Mode) -> Result<Statement, Refusal>
+    ensures { Reads sense_of (forms.a_statement mode) result cursor.old.rest.now
+        cursor.new.rest.now }
+{
+    let found = form(alloc, cursor, mode)?;
+    if !has_names(mode.edition_at(&found), &found) {
+        return Err(Refusal::NoForm);
+    }
+    Ok(found)
+}
+
 /// Reads all the tokens of a line as one statement.
-pub fn parse_statement(alloc: Global, items: &[Item<'_>]) -> Result<Statement, Refusal>
-    ensures found { IfOk result (λ t. IsForm (glyphs_of items.now) (sense_of t)) }
-    ensures only { (s : Sense) → IsForm (glyphs_of items.now) s → States result s }
+pub fn parse_statement(alloc: Global, items: &[Item<'_>], mode: Mode) -> Result<Statement, Refusal>
+    ensures found { IfOk result (λ t. IsFormAt mode (glyphs_of items.now) (sense_of t)) }
+    ensures only { (s : Sense) → IsFormAt mode (glyphs_of items.now) s → States result s }
 {
     let mut cursor = Cursor { rest: items };
-    let found = statement(alloc, &mut cursor)?;
+    let found = statement(alloc, &mut cursor, mode)?;
     if !cursor.rest.is_empty() {
         return Err(Refusal::NoForm);
     }

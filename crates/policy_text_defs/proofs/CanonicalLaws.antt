@@ -1,14 +1,14 @@
 -- The canonical text of statements that can be written parses and has exactly these statements.
-use Rattle.policy_text_defs.proofs.Prelude.{List, ℕ, [], refl, ◌≡◌, ◌∷◌, ◌++◌, subst, Bool, true, false, sym, arith, codes, ◌≤◌, ◌∙◌, ap, suc, cond, zero, length, map, ◌-◌, nat_tests, append-nil, take_all, AllByRecursion, list_all, prefix_len, All, ◌&&◌, ◌==◌, slice_index, ◌↔◌, is_clean, is_clean_text, no_comment, ends_with_return, lines_of, onto_first, statement_length, statement_of, statements_of, Says, statement_text, canonical_text, most_text, Sense, class, each, keep, leaf, node, pop, push, transaction, version, Entry, numbered, Carries, Entries, IsWritten, carried, is_shaping, over, HasEntries, IsValid}
+use Rattle.policy_text_defs.proofs.Prelude.{List, ℕ, [], refl, ◌≡◌, ◌∷◌, ◌++◌, subst, Bool, true, false, sym, arith, codes, ◌≤◌, ◌∙◌, ap, suc, cond, zero, length, map, ◌-◌, nat_tests, append-nil, take_all, AllByRecursion, list_all, prefix_len, All, ◌&&◌, ◌==◌, slice_index, ◌↔◌, is_clean, is_clean_text, no_comment, ends_with_return, lines_of, onto_first, statement_length, statement_of, statements_of, SaysIn, IsApart, Dialect, dialect_of, CarriesAt, Mode, statement_text, canonical_text, most_text, Sense, class, filter, each, keep, leaf, node, pop, push, transaction, version, Entry, numbered, Carries, Entries, IsWritten, carried, is_shaping, over, HasEntries, IsValidIn, AreWritten, Edition, Classic, Third, Opening, Within, chosen, edition_at, edition_of, is_read}
 use Rattle.std.proofs.lemmas.List.Elements.{All-tail}
 use Rattle.text_core.specs.Lines.{is_text}
 use Rattle.policy_text_defs.proofs.TokenLaws.{both_true}
-use Rattle.policy_text_defs.proofs.Pieces.{is_plain}
+use Rattle.policy_text_defs.proofs.Pieces.{is_plain, IsPiece}
 use Rattle.policy_text_defs.proofs.StatementTokens.{statement_tokens}
 use Rattle.policy_text_defs.proofs.StatementForms.{statement_form}
-use Rattle.policy_text_defs.proofs.StatementPieces.{text_statement}
+use Rattle.policy_text_defs.proofs.StatementPieces.{text_statement, text_opening}
 use Rattle.policy_text_defs.proofs.TextLaws.{Entries-one}
-use Rattle.policy_text_defs.proofs.ValidLaws.{IsWritten_IsValid}
+use Rattle.policy_text_defs.proofs.ValidLaws.{IsWritten_IsValidIn, CarriesAt_IsValidIn}
 
 -- ---- plain bytes
 
@@ -67,14 +67,14 @@ line_first (b ∷ bs) rest plain = rw (plain_text b (first_plain b bs plain)) (a
 
 -- ---- statements
 
-statement_plain : (s : Sense) → IsValid s → ArePlain (statement_text s)
-statement_plain s is = (text_statement s is).plain
+statement_plain : (e : Edition) (s : Sense) → IsValidIn e s → ArePlain (statement_text s)
+statement_plain e s is = (text_statement e s is.0 is.1 is.2).plain
 
-statement_says : (s : Sense) → IsValid s → Says (statement_text s) (statement_tokens s)
-statement_says s is =
-    let all = (text_statement s is).says [] [] tt refl in
-    let P : List ℕ → Type 0 = λ l. Says l (statement_tokens s ++ []) in
-    subst (Says (statement_text s)) (append-nil (statement_tokens s)) (subst P (append-nil (statement_text s)) all)
+piece_says : (d : Dialect) (s : Sense) → IsPiece d IsApart (statement_text s) (statement_tokens s) → SaysIn d (statement_text s) (statement_tokens s)
+piece_says d s piece =
+    let all = piece.says [] [] tt refl in
+    let P : List ℕ → Type 0 = λ l. SaysIn d l (statement_tokens s ++ []) in
+    subst (SaysIn d (statement_text s)) (append-nil (statement_tokens s)) (subst P (append-nil (statement_text s)) all)
 
 unshaped : (s : Sense) → is_shaping (statement_text s) ≡ false
 unshaped (version v) = refl
@@ -84,52 +84,85 @@ unshaped (each n s) = refl
 unshaped (push n a) = refl
 unshaped (pop n a) = refl
 unshaped (class n a cs) = refl
+unshaped (filter n a cs) = refl
 unshaped (leaf n u a l ns) = refl
 unshaped (node n u a ns) = refl
 
-statement_carried : (s : Sense) → IsValid s → Carries (statement_text s) s
-statement_carried s is = record {
-  clean = all_clean (statement_text s) (statement_plain s is);
+statement_carried : (e : Edition) (s : Sense) → IsValidIn e s → Carries e (statement_text s) s
+statement_carried e s is = record {
+  clean = all_clean (statement_text s) (statement_plain e s is);
   unshaped = unshaped s;
   tokens = statement_tokens s;
-  says = statement_says s is;
-  form = statement_form s is;
+  says = piece_says (dialect_of e) s (text_statement e s is.0 is.1 is.2);
+  form = record { form = statement_form e s is.0 is.2; named = is.1 };
 }
 
 -- the canonical line of a statement that can be written spells it
-pub statement_text_carries : (s : Sense) → IsWritten s → Carries (statement_text s) s
-statement_text_carries s written = statement_carried s (IsWritten_IsValid s written)
+pub statement_text_carries : (e : Edition) (s : Sense) → IsWritten e s → Carries e (statement_text s) s
+statement_text_carries e s written = statement_carried e s (IsWritten_IsValidIn e s written)
 
 -- a valid statement can be written
-pub IsValid_IsWritten : (s : Sense) → IsValid s → IsWritten s
-IsValid_IsWritten s is = ∣ record { line = statement_text s; carries = statement_carried s is } ∣₁
+pub IsValidIn_IsWritten : (e : Edition) (s : Sense) → IsValidIn e s → IsWritten e s
+IsValidIn_IsWritten e s is = ∣ record { line = statement_text s; carries = statement_carried e s is } ∣₁
 
 -- ---- texts
 
-canonical_lines : (ss : List Sense) → AllByRecursion IsValid ss → statements_of (canonical_text ss) ≡ map statement_text ss
-canonical_lines [] all = refl
-canonical_lines (s ∷ ss) all =
-    let plain = statement_plain s all.0 in
+canonical_lines : (e : Edition) (ss : List Sense) → AllByRecursion (IsValidIn e) ss → statements_of (canonical_text ss) ≡ map statement_text ss
+canonical_lines e [] all = refl
+canonical_lines e (s ∷ ss) all =
+    let plain = statement_plain e s all.0 in
     ap (map statement_of) (line_first (statement_text s) (canonical_text ss) plain)
     ∙ ap (λ l. l ∷ statements_of (canonical_text ss)) (plain_statement (statement_text s) plain)
-    ∙ ap (λ ls. statement_text s ∷ ls) (canonical_lines ss all.1)
+    ∙ ap (λ ls. statement_text s ∷ ls) (canonical_lines e ss all.1)
 
-canonical_entries : (n : ℕ) (ss : List Sense) → AllByRecursion IsValid ss → Entries n (map statement_text ss) (numbered n ss)
-canonical_entries n [] all = over n
-canonical_entries n (s ∷ ss) all = carried n (statement_text s) (map statement_text ss) s (numbered (suc n) ss) (statement_carried s all.0) (canonical_entries (suc n) ss all.1)
+canonical_within : (e : Edition) (n : ℕ) (ss : List Sense) → AllByRecursion (IsValidIn e) ss → Entries (Within e) n (map statement_text ss) (numbered n ss)
+canonical_within e n [] all = over (Within e) n
+canonical_within e n (s ∷ ss) all = carried (Within e) n (statement_text s) (map statement_text ss) s (numbered (suc n) ss) (statement_carried e s all.0) (canonical_within e (suc n) ss all.1)
 
-all_valid : (ss : List Sense) → All IsWritten ss → AllByRecursion IsValid ss
-all_valid [] all = tt
-all_valid (s ∷ ss) all = (IsWritten_IsValid s (all 0 s (omega arith)), all_valid ss (All-tail IsWritten s ss all))
+-- a reader of the edition that a statement chooses reads it in this edition
+opening_reads : (latest edition : Edition) (s : Sense) → chosen s ≡ edition → is_read latest edition ≡ true → edition_at (Opening latest) s ≡ edition
+opening_reads Third e s is may = is
+opening_reads Classic Classic s is may = refl
+opening_reads Classic Third s is may = absurd cc
 
-canonical_text_HasEntries : (ss : List Sense) → All IsWritten ss → length (canonical_text ss) ≤ most_text → HasEntries (canonical_text ss) (numbered 1 ss)
-canonical_text_HasEntries ss all short =
-    let valid = all_valid ss all in
-    let P : List (List ℕ) → Type 0 = λ ls. Entries 1 ls (numbered 1 ss) in
-    record { short = short; entries = subst P (sym (canonical_lines ss valid)) (canonical_entries 1 ss valid) }
+-- the canonical line of the first statement spells it, for each reader of its edition
+opening_carried : (latest : Edition) (s : Sense) → is_read latest (chosen s) ≡ true → IsValidIn (chosen s) s → CarriesAt (Opening latest) (statement_text s) s
+opening_carried latest s may is =
+    let same = sym (opening_reads latest (chosen s) s refl may) in
+    let there : IsValidIn (edition_at (Opening latest) s) s = subst (λ (e : Edition). IsValidIn e s) same is in
+    record {
+      clean = all_clean (statement_text s) (statement_plain (chosen s) s is);
+      unshaped = unshaped s;
+      tokens = statement_tokens s;
+      says = piece_says (dialect_of Classic) s (text_opening s is);
+      form = record { form = statement_form (edition_at (Opening latest) s) s there.0 there.2; named = there.1 };
+    }
 
--- the canonical text of statements that can be written has exactly these, numbered from 1
-pub canonical_text_has : (ss : List Sense) → All IsWritten ss → length (canonical_text ss) ≤ most_text → (es : List Entry) → HasEntries (canonical_text ss) es ↔ (es ≡ numbered 1 ss)
-canonical_text_has ss all short es =
-    let has = canonical_text_HasEntries ss all short in
-    (λ other. Entries-one 1 (statements_of (canonical_text ss)) es (numbered 1 ss) other.entries has.entries, λ same. subst (HasEntries (canonical_text ss)) (sym same) has)
+canonical_entries : (latest : Edition) (n : ℕ) (ss : List Sense) → is_read latest (edition_of ss) ≡ true → AllByRecursion (IsValidIn (edition_of ss)) ss → Entries (Opening latest) n (map statement_text ss) (numbered n ss)
+canonical_entries latest n [] may all = over (Opening latest) n
+canonical_entries latest n (s ∷ ss) may all =
+    let same = sym (opening_reads latest (chosen s) s refl may) in
+    carried (Opening latest) n (statement_text s) (map statement_text ss) s (numbered (suc n) ss)
+    (opening_carried latest s may all.0)
+    (subst (λ (e : Edition). Entries (Within e) (suc n) (map statement_text ss) (numbered (suc n) ss)) same (canonical_within (chosen s) (suc n) ss all.1))
+
+-- a statement on a line can be written in the edition in which it is read
+pub CarriesAt_IsWritten : (m : Mode) (line : List ℕ) (s : Sense) → CarriesAt m line s → IsWritten (edition_at m s) s
+CarriesAt_IsWritten m line s c = IsValidIn_IsWritten (edition_at m s) s (CarriesAt_IsValidIn m line s c)
+
+all_valid : (e : Edition) (ss : List Sense) → All (IsWritten e) ss → AllByRecursion (IsValidIn e) ss
+all_valid e [] all = tt
+all_valid e (s ∷ ss) all = (IsWritten_IsValidIn e s (all 0 s (omega arith)), all_valid e ss (All-tail (IsWritten e) s ss all))
+
+canonical_text_HasEntries : (latest : Edition) (ss : List Sense) → AreWritten ss → is_read latest (edition_of ss) ≡ true → length (canonical_text ss) ≤ most_text → HasEntries latest (canonical_text ss) (numbered 1 ss)
+canonical_text_HasEntries latest ss all may short =
+    let valid = all_valid (edition_of ss) ss all in
+    let P : List (List ℕ) → Type 0 = λ ls. Entries (Opening latest) 1 ls (numbered 1 ss) in
+    record { short = short; entries = subst P (sym (canonical_lines (edition_of ss) ss valid)) (canonical_entries latest 1 ss may valid) }
+
+-- the canonical text of statements that can be written in one edition has exactly these, numbered
+-- from 1
+pub canonical_text_has : (ss : List Sense) → AreWritten ss → (latest : Edition) → is_read latest (edition_of ss) ≡ true → length (canonical_text ss) ≤ most_text → (es : List Entry) → HasEntries latest (canonical_text ss) es ↔ (es ≡ numbered 1 ss)
+canonical_text_has ss all latest may short es =
+    let has = canonical_text_HasEntries latest ss all may short in
+    (λ other. Entries-one (Opening latest) 1 (statements_of (canonical_text ss)) es (numbered 1 ss) other.entries has.entries, λ same. subst (HasEntries latest (canonical_text ss)) (sym same) has)

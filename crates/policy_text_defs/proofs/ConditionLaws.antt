@@ -7,19 +7,17 @@ use Rattle.policy_text_defs.specs.declared.condition.Subject.{Subject}
 use Rattle.policy_text_defs.specs.declared.condition.Subject.TheVariants as subject
 use Rattle.policy_text_defs.specs.Reading.{is_text}
 use Rattle.policy_text_defs.specs.StatementReading.{within, upper, bounded, address, prefix_length, source_rest, dest_rest, a_condition}
+use Rattle.policy_text_defs.specs.TestReading.{sign_ahead}
 use Rattle.policy_text_defs.proofs.StepLaws.{steps, same_value, same_rest, stands, marked, sign_is, text_is, in_table}
 use Rattle.policy_text_defs.proofs.TokenLaws.{numbered, a_word_was, number_to_was, kept, Kept, both_true}
 
 -- ---- a mark or a word that may follow
 
-abbrev pub sign_ahead : Mark → Glyph → Option (Unit {0})
-sign_ahead s g = unit_if (is_sign s g)
-
-unit_case : (v : Bool) (u : Unit {0}) → unit_if v ≡ Some u → v ≡ true
+pub unit_case : (v : Bool) (u : Unit {0}) → unit_if v ≡ Some u → v ≡ true
 unit_case true u e = refl
 unit_case false u e = absurd cc
 
-sign_follows : (s : Mark) (gs hs : List Glyph) (u : Unit {0}) → ahead (sign_ahead s) gs ≡ Some (u, hs) → gs ≡ sign s ∷ hs
+pub sign_follows : (s : Mark) (gs hs : List Glyph) (u : Unit {0}) → ahead (sign_ahead s) gs ≡ Some (u, hs) → gs ≡ sign s ∷ hs
 sign_follows s gs hs u e =
     let stand = stands (sign_ahead s) gs hs u e in
     stand.split ∙ ap (λ g. g ∷ hs) (sign_is s stand.glyph (unit_case (is_sign s stand.glyph) u stand.is))
@@ -42,7 +40,7 @@ apart_word w gs = record { dots = refl; slash = refl }
 
 -- ---- ranges
 
-data Upper (low : ℕ) (gs : List Glyph) (high : ℕ) (left : List Glyph) : Type 0 where
+pub data Upper (low : ℕ) (gs : List Glyph) (high : ℕ) (left : List Glyph) : Type 0 where
   alone : low ≡ high → gs ≡ left → Upper low gs high left
   dotted : gs ≡ sign m.DotDot ∷ figure high ∷ left → Upper low gs high left
 
@@ -50,7 +48,7 @@ upper_case : (low high : ℕ) (gs left : List Glyph) (found : Outcome (Unit {0})
 upper_case low high gs left None is e = alone (same_value low high gs left e) (same_rest low high gs left e)
 upper_case low high gs left (Some t) is e = dotted (sign_follows m.DotDot gs t.1 t.0 is ∙ ap (λ l. sign m.DotDot ∷ l) (numbered t.1 left high e))
 
-upper_was : (low high : ℕ) (gs left : List Glyph) → upper low gs ≡ Some (high, left) → Upper low gs high left
+pub upper_was : (low high : ℕ) (gs left : List Glyph) → upper low gs ≡ Some (high, left) → Upper low gs high left
 unfolding upper
 upper_was low high gs left e = upper_case low high gs left (ahead (sign_ahead m.DotDot) gs) refl e
 
@@ -95,13 +93,13 @@ bounds_was f (sign s ∷ gs) left c e = absurd cc
 
 -- ---- addresses
 
-record WithOctets (gs : List Glyph) (a : ℕ) (left : List Glyph) : Type 0 where
-  octets : Octets
-  are : AreOctets octets
-  split : gs ≡ octet_tokens octets ++ left
-  same : address_of octets ≡ a
+pub record WithOctets (gs : List Glyph) (a : ℕ) (left : List Glyph) : Type 0 where
+  pub octets : Octets
+  pub are : AreOctets octets
+  pub split : gs ≡ octet_tokens octets ++ left
+  pub same : address_of octets ≡ a
 
-address_was : (a : ℕ) (gs left : List Glyph) → address gs ≡ Some (a, left) → WithOctets gs a left
+pub address_was : (a : ℕ) (gs left : List Glyph) → address gs ≡ Some (a, left) → WithOctets gs a left
 unfolding address
 address_was a gs left e =
     let one = steps _ _ _ _ e in
@@ -122,7 +120,7 @@ address_was a gs left e =
     let e1 : gs ≡ octet_tokens o ++ left = first.split ∙ ap (λ l. figure one.value ∷ l) (marked m.Dot one.left dot_one.left dot_one.value dot_one.read ∙ ap (λ l. sign m.Dot ∷ l) e2) in
     record { octets = o; are = record { first = first.low; second = second.low; third = third.low; fourth = fourth.low }; split = e1; same = same_value (address_of o) a four.left left four.next }
 
-data Prefix (gs : List Glyph) (l : ℕ) (left : List Glyph) : Type 0 where
+pub data Prefix (gs : List Glyph) (l : ℕ) (left : List Glyph) : Type 0 where
   longest : most_prefix ≡ l → gs ≡ left → Prefix gs l left
   slashed : l ≤ most_prefix → gs ≡ sign m.Slash ∷ figure l ∷ left → Prefix gs l left
 
@@ -132,17 +130,17 @@ prefix_case l gs left (Some t) is e =
     let n = number_to_was most_prefix l t.1 left e in
     slashed n.low (sign_follows m.Slash gs t.1 t.0 is ∙ ap (λ r. sign m.Slash ∷ r) n.split)
 
-prefix_was : (l : ℕ) (gs left : List Glyph) → prefix_length gs ≡ Some (l, left) → Prefix gs l left
+pub prefix_was : (l : ℕ) (gs left : List Glyph) → prefix_length gs ≡ Some (l, left) → Prefix gs l left
 unfolding prefix_length
 prefix_was l gs left e = prefix_case l gs left (ahead (sign_ahead m.Slash) gs) refl e
 
 -- an address was read
-record WithAddress (gs : List Glyph) (a l : ℕ) (left : List Glyph) : Type 0 where
-  front : List Glyph
-  split : gs ≡ front ++ left
-  is : Address front a l
+pub record WithAddress (gs : List Glyph) (a l : ℕ) (left : List Glyph) : Type 0 where
+  pub front : List Glyph
+  pub split : gs ≡ front ++ left
+  pub is : Address front a l
 
-with_address : (a l : ℕ) (gs hs left : List Glyph) → WithOctets gs a hs → Prefix hs l left → WithAddress gs a l left
+pub with_address : (a l : ℕ) (gs hs left : List Glyph) → WithOctets gs a hs → Prefix hs l left → WithAddress gs a l left
 with_address a l gs hs left with_octets (longest same over) =
     let o = with_octets.octets in
     let made : Address (octet_tokens o) (address_of o) l = subst (Address (octet_tokens o) (address_of o)) same (whole o with_octets.are) in
@@ -235,7 +233,7 @@ upper_alone : (low : ℕ) (rest : List Glyph) → Apart rest → upper low rest 
 unfolding upper
 upper_alone low rest apart = rw apart.dots refl
 
-upper_dotted : (low high : ℕ) (rest : List Glyph) → upper low (sign m.DotDot ∷ figure high ∷ rest) ≡ Some (high, rest)
+pub upper_dotted : (low high : ℕ) (rest : List Glyph) → upper low (sign m.DotDot ∷ figure high ∷ rest) ≡ Some (high, rest)
 unfolding upper
 upper_dotted low high rest = refl
 
@@ -259,10 +257,7 @@ prefix_reads : (l : ℕ) (rest : List Glyph) → l ≤ most_prefix → prefix_le
 unfolding prefix_length within
 prefix_reads l rest low = rw (le-leb l most_prefix low) refl
 
-abbrev a_source : ℕ → ℕ → Condition
-a_source a l = condition.Source a l
-
-address_read : (then : ℕ → ℕ → Condition) (ts rest : List Glyph) (a l : ℕ) → Address ts a l → Apart rest → (address >>= (λ b. prefix_length >>= (λ k. pure (then b k)))) (ts ++ rest) ≡ Some (then a l, rest)
+pub address_read : {A : Type 0} (then : ℕ → ℕ → A) (ts rest : List Glyph) (a l : ℕ) → Address ts a l → Apart rest → (address >>= (λ b. prefix_length >>= (λ k. pure (then b k)))) (ts ++ rest) ≡ Some (then a l, rest)
 address_read then ts rest a l (whole o are) apart = rw (octets_read o rest are, prefix_alone rest apart) refl
 address_read then ts rest a l (prefix o _ are low) apart = rw (octets_read o (sign m.Slash ∷ figure l ∷ rest) are, prefix_reads l rest low) refl
 

@@ -1,5 +1,5 @@
 -- The numbers in tokens aren't too large.
-use Rattle.policy_text_defs.proofs.Prelude.{List, ℕ, [], refl, ◌≡◌, ◌∷◌, Some, subst, Bool, true, false, None, arith, ◌≤◌, Option, cond, drop, option_map, take, leb-true, AllByRecursion, ◌&&◌, nat_le, is_numeral, number_of, Glyph, text, figure, sign, mark_of, Says, SaysFrom, skipped, said, Mark}
+use Rattle.policy_text_defs.proofs.Prelude.{List, ℕ, [], refl, ◌≡◌, ◌∷◌, Some, subst, Bool, true, false, None, arith, ◌≤◌, Option, cond, drop, option_map, take, leb-true, AllByRecursion, ◌&&◌, nat_le, is_numeral, number_of, Glyph, text, figure, sign, mark_of, SaysIn, SaysFromIn, Dialect, skipped, said, Mark}
 use Rattle.std.specs.Str.Parse.{digits_value}
 use Rattle.text_core.specs.declared.token.TokenKind.{TokenKind}
 use Rattle.text_core.specs.declared.token.TokenKind.TheVariants as k
@@ -40,9 +40,9 @@ said_lexed k.Word bs g e =
 said_lexed k.Number bs g e = number_lexed bs g (number_of bs) refl e
 said_lexed k.Mark bs g e = mark_lexed g (mark_of bs) e
 
-pub SaysFrom-lexed : (bs : List ℕ) (gs : List Glyph) → SaysFrom bs gs → AllByRecursion IsLexed gs
-SaysFrom-lexed bs [] says = tt
-SaysFrom-lexed bs (g ∷ gs) says = (said_lexed says.0 (take says.1 bs) g says.3, SaysFrom-lexed (skipped (drop says.1 bs)) gs says.4)
+pub SaysFrom-lexed : (d : Dialect) (bs : List ℕ) (gs : List Glyph) → SaysFromIn d bs gs → AllByRecursion IsLexed gs
+SaysFrom-lexed d bs [] says = tt
+SaysFrom-lexed d bs (g ∷ gs) says = (said_lexed says.0 (take says.1 bs) g says.3, SaysFrom-lexed d (skipped (drop says.1 bs)) gs says.4)
 
-pub Says-lexed : (bs : List ℕ) (gs : List Glyph) → Says bs gs → AllByRecursion IsLexed gs
-Says-lexed bs gs says = SaysFrom-lexed (skipped bs) gs says
+pub Says-lexed : (d : Dialect) (bs : List ℕ) (gs : List Glyph) → SaysIn d bs gs → AllByRecursion IsLexed gs
+Says-lexed d bs gs says = SaysFrom-lexed d (skipped bs) gs says

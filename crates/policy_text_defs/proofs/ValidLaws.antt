@@ -1,9 +1,12 @@
 -- Statements that can be written are valid.
-use Rattle.policy_text_defs.proofs.Prelude.{List, ℕ, [], refl, ◌≡◌, ◌∷◌, Some, ◌++◌, Bool, true, false, None, arith, codes, ◌≤◌, Option, suc, cond, zero, AllByRecursion, IfSome, bytes_eq, Op, Glyph, Atom, Expression, Form, GoesOn, IsOperand, Spells, alone, call_atom, compared, ends, grouped, if_atom, more, named, not_atom, number_atom, parens_atom, variable, word_atom, AtomOver, Compared, Grouped, NoForm, Phrase, two, most_open, Sense, IsLimit, Attributes, Guard, IsCondition, IsForm, Limit, guarded, unguarded, Address, AttributesFrom, Conditions, IsTarget, Range, also, between, class_form, dest, each_form, field, ipv4, ipv6, keep_form, last, leaf_form, no_more, node_form, pop_form, prefix, push_form, rank_target, set, single, source, transaction_form, unlimited, unset, variable_target, version_form, with_attribute, protocol, whole, IsWritten, LineOf, IsValid, AreValidAttributes, HasOperands, IsValidCondition, IsValidAddress, IsValidPhrase, IsAttributeNumber, is_name, is_target, is_operand, Attribute, Attrs, Condition}
+use Rattle.policy_text_defs.proofs.Prelude.{List, ℕ, [], refl, ◌≡◌, ◌∷◌, ◌++◌, true, arith, Option, suc, zero, AllByRecursion, IfSome, Op, Glyph, Atom, Expression, Form, GoesOn, IsOperand, Spells, alone, call_atom, compared, ends, grouped, if_atom, more, named, not_atom, number_atom, parens_atom, variable, word_atom, AtomOver, Compared, Grouped, NoForm, Phrase, two, most_open, Sense, IsLimit, Attributes, IsForm, Limit, AttributesFrom, IsTarget, class_form, filter_form, each_form, keep_form, leaf_form, no_more, node_form, pop_form, push_form, rank_target, set, transaction_form, unlimited, unset, variable_target, version_form, with_attribute, IsWritten, CarriesAt, IsValidIn, HasParts, Mode, Within, edition_at, dialect_at, AreValidAttributes, HasOperands, IsValidPhrase, IsAttributeNumber, is_name, is_target, is_operand, Attribute, Attrs, Edition, IsValid, Classic, Third, version, transaction, keep, each, push, pop, class, filter, leaf, node}
 use Rattle.policy_text_defs.specs.declared.attribute.Attribute.TheVariants as attribute
 use Rattle.std.proofs.Math.Bool.{or-true}
 use Rattle.std.proofs.Math.Logic.{∥∥₁_elim}
-use Rattle.policy_text_defs.proofs.ValidProps.{IsValid-prop}
+use Rattle.policy_text_defs.proofs.ValidProps.{IsValidIn-prop}
+use Rattle.policy_text_defs.proofs.ConditionValid.{guard_valid}
+use Rattle.policy_text_defs.proofs.TestValid.{alternatives_valid}
+use Rattle.policy_text_defs.proofs.StatementLaws.{form_kind}
 use Rattle.policy_text_defs.specs.Statements.{limited}
 use Rattle.policy_text_defs.proofs.NumberLimits.{IsLexed, Says-lexed}
 
@@ -80,68 +83,51 @@ limit_valid : (ls : List Glyph) (l : Option ℕ) → Limit ls l → IfSome l IsL
 limit_valid ls l unlimited = tt
 limit_valid ls l (limited n is) = is
 
--- ---- conditions
-
-range_ordered : (ts : List Glyph) (low high : ℕ) → Range ts low high → low ≤ high
-range_ordered ts low high (single n) = omega arith
-range_ordered ts low high (between _ _ ordered) = ordered
-
-protocol_case : (u v w : Bool) (n : ℕ) → cond u (Some 6) (cond v (Some 17) (cond w (Some 1) None)) ≡ Some n → n ≤ 255
-protocol_case true v w n e = let same : 6 ≡ n = cc in omega arith
-protocol_case false true w n e = let same : 17 ≡ n = cc in omega arith
-protocol_case false false true n e = let same : 1 ≡ n = cc in omega arith
-protocol_case false false false n e = absurd cc
-
-address_valid : (ts : List Glyph) (a l : ℕ) → Address ts a l → IsValidAddress a l
-address_valid ts a l (whole o are) =
-    let first = are.first in
-    let second = are.second in
-    let third = are.third in
-    let fourth = are.fourth in
-    record { address = omega arith; prefix = omega arith }
-address_valid ts a l (prefix o _ are low) =
-    let first = are.first in
-    let second = are.second in
-    let third = are.third in
-    let fourth = are.fourth in
-    record { address = omega arith; prefix = low }
-
-condition_valid : (ts : List Glyph) (c : Condition) → IsCondition ts c → IsValidCondition c
-condition_valid gs c (field f ts low high range below) = record { ordered = range_ordered ts low high range; below = below }
-condition_valid gs c (protocol w n is) = record { ordered = omega arith; below = protocol_case (bytes_eq w (codes "tcp")) (bytes_eq w (codes "udp")) (bytes_eq w (codes "icmp")) n is }
-condition_valid gs c (source ts a l address) = address_valid ts a l address
-condition_valid gs c (dest ts a l address) = address_valid ts a l address
-condition_valid gs c ipv4 = tt
-condition_valid gs c ipv6 = tt
-
-conditions_valid : (ts : List Glyph) (cs : List Condition) → Conditions ts cs → AllByRecursion IsValidCondition cs
-conditions_valid gs cs (last ts c is) = (condition_valid ts c is, tt)
-conditions_valid gs cs (also ts us c ds is later) = (condition_valid ts c is, conditions_valid us ds later)
-
-guard_valid : (ts : List Glyph) (cs : List Condition) → Guard ts cs → AllByRecursion IsValidCondition cs
-guard_valid gs cs unguarded = tt
-guard_valid gs cs (guarded ts _ are) = conditions_valid ts cs are
-
 -- ---- statements
 
 target_is : (w : List ℕ) → IsTarget w → is_target w ≡ true
 target_is w (variable_target _ is) = rw is refl
 target_is w rank_target = refl
 
-form_valid : (gs : List Glyph) (s : Sense) → AreLexed gs → IsForm gs s → IsValid s
-form_valid gs s all (version_form v is) = is
-form_valid gs s all (transaction_form n name) = name
-form_valid gs s all (keep_form n span name ordered) = (name, record { ordered = ordered; low = all.1.1.0; high = all.1.1.1.1.0; first = all.1.1.1.1.1.1.0 })
-form_valid gs s all (each_form n span name ordered) = (name, record { ordered = ordered; low = all.1.1.0; high = all.1.1.1.1.0; first = all.1.1.1.1.1.1.0 })
-form_valid gs s all (push_form n ts a target spells) = (target_is n target, phrase_valid ts a all.1.1.1 spells)
-form_valid gs s all (pop_form n ts a name spells) = (name, phrase_valid ts a all.1.1.1 spells)
-form_valid gs s all (class_form n ts us a cs name attributes guard) = (name, attributes_valid ts a attributes, guard_valid us cs guard)
-form_valid gs s all (leaf_form n u ts ls a l ns name used attributes limit names) = (name, used, attributes_valid ts a attributes, limit_valid ls l limit, names)
-form_valid gs s all (node_form n u ts a ns name used attributes names) = (name, used, attributes_valid ts a attributes, names)
+form_valid : (e : Edition) (gs : List Glyph) (s : Sense) → AreLexed gs → IsForm e gs s → HasParts e s
+form_valid e gs s all (version_form v is) = is
+form_valid e gs s all (transaction_form n name) = name
+form_valid e gs s all (keep_form n span name ordered) = (name, record { ordered = ordered; low = all.1.1.0; high = all.1.1.1.1.0; first = all.1.1.1.1.1.1.0 })
+form_valid e gs s all (each_form n span name ordered) = (name, record { ordered = ordered; low = all.1.1.0; high = all.1.1.1.1.0; first = all.1.1.1.1.1.1.0 })
+form_valid e gs s all (push_form n ts a target spells) = (target_is n target, phrase_valid ts a all.1.1.1 spells)
+form_valid e gs s all (pop_form n ts a name spells) = (name, phrase_valid ts a all.1.1.1 spells)
+form_valid e gs s all (class_form may n ts us a cs name attributes guard) = (name, attributes_valid ts a attributes, guard_valid us cs guard)
+form_valid e gs s all (filter_form may n ts us a cs name attributes are) = (name, attributes_valid ts a attributes, alternatives_valid us cs are)
+form_valid e gs s all (leaf_form n u ts ls a l ns name used attributes limit names) = (name, used, attributes_valid ts a attributes, limit_valid ls l limit, names)
+form_valid e gs s all (node_form n u ts a ns name used attributes names) = (name, used, attributes_valid ts a attributes, names)
 
-line_valid : (s : Sense) → LineOf s → IsValid s
-line_valid s line = form_valid line.carries.tokens s (Says-lexed line.line line.carries.tokens line.carries.says) line.carries.form
+-- a statement on a line is valid in the edition in which it is read
+pub CarriesAt_IsValidIn : (m : Mode) (line : List ℕ) (s : Sense) → CarriesAt m line s → IsValidIn (edition_at m s) s
+CarriesAt_IsValidIn m line s c = (form_valid (edition_at m s) c.tokens s (Says-lexed (dialect_at m) line c.tokens c.says) c.form.form, c.form.named, form_kind (edition_at m s) c.tokens s c.form.form)
 
 -- a statement that can be written is valid
-pub IsWritten_IsValid : (s : Sense) → IsWritten s → IsValid s
-IsWritten_IsValid s written = ∥∥₁_elim written (IsValid-prop s) (line_valid s)
+pub IsWritten_IsValidIn : (e : Edition) (s : Sense) → IsWritten e s → IsValidIn e s
+IsWritten_IsValidIn e s written = ∥∥₁_elim written (IsValidIn-prop e s) (λ l. CarriesAt_IsValidIn (Within e) l.line s l.carries)
+
+-- the third edition has the versions of both
+valid_in_some : (e : Edition) (s : Sense) → HasParts e s → IsValid s
+valid_in_some Third s is = is
+valid_in_some Classic (version v) is =
+    let below = is.below in
+    record { above = is.above; below = omega arith }
+valid_in_some Classic (transaction n) is = is
+valid_in_some Classic (keep n s) is = is
+valid_in_some Classic (each n s) is = is
+valid_in_some Classic (push n a) is = is
+valid_in_some Classic (pop n a) is = is
+valid_in_some Classic (class n a cs) is = is
+valid_in_some Classic (filter n a cs) is = is
+valid_in_some Classic (leaf n u a l ns) is = is
+valid_in_some Classic (node n u a ns) is = is
+
+-- a statement that can be written in an edition is valid
+pub IsWritten_IsValid : {e : Edition} (s : Sense) → IsWritten e s → IsValid s
+IsWritten_IsValid {e} s written = valid_in_some e s (IsWritten_IsValidIn e s written).0
+
+pub CarriesAt_IsValid : (m : Mode) (line : List ℕ) (s : Sense) → CarriesAt m line s → IsValid s
+CarriesAt_IsValid m line s c = valid_in_some (edition_at m s) s (CarriesAt_IsValidIn m line s c).0

@@ -1,5 +1,6 @@
 -- Any two proofs that a statement can be printed are equal.
-use Rattle.policy_text_defs.proofs.Prelude.{List, ℕ, Some, None, Option, AllByRecursion, AllByRecursion-prop, IfSome, Phrase, two, choice, negation, number, word, Sense, class, each, keep, leaf, node, pop, push, transaction, version, IsLimit, IsName, AreNames, IsValid, AreValidAttributes, HasOperands, IsValidCondition, IsValidAttribute, IsValidPhrase, Attribute, Attrs, Condition}
+use Rattle.policy_text_defs.proofs.Prelude.{List, ℕ, Some, None, Option, AllByRecursion, AllByRecursion-prop, IfSome, Phrase, two, choice, negation, number, word, Sense, class, filter, each, keep, leaf, node, pop, push, transaction, version, IsLimit, IsName, AreNames, IsValidIn, HasParts, AreValidAttributes, HasOperands, IsValidCondition, IsValidAttribute, IsValidPhrase, Attribute, Attrs, Condition, Edition}
+use Rattle.policy_text_defs.proofs.TestValid.{alternatives-prop}
 use Rattle.std.proofs.Props.{props}
 use Rattle.policy_text_defs.specs.declared.attribute.Attribute.TheVariants as attribute
 use Rattle.policy_text_defs.specs.declared.condition.Condition.TheVariants as condition
@@ -44,13 +45,17 @@ all-named-prop ns = AllByRecursion-prop IsName named-prop ns
 are-names-prop : (ns : List (List ℕ)) → IsProp (AreNames ns)
 are-names-prop ns = hlevel (props, all-named-prop ns)
 
-pub IsValid-prop : (s : Sense) → IsProp (IsValid s)
-IsValid-prop (version v) = hlevel props
-IsValid-prop (transaction n) = hlevel props
-IsValid-prop (keep n s) = hlevel props
-IsValid-prop (each n s) = hlevel props
-IsValid-prop (push n a) = hlevel (props, phrase-prop a)
-IsValid-prop (pop n a) = hlevel (props, phrase-prop a)
-IsValid-prop (class n a cs) = hlevel (props, attributes-prop a, conditions-prop cs)
-IsValid-prop (leaf n u a l ns) = hlevel (props, attributes-prop a, limit-prop l, are-names-prop ns)
-IsValid-prop (node n u a ns) = hlevel (props, attributes-prop a, are-names-prop ns)
+parts-prop : (e : Edition) (s : Sense) → IsProp (HasParts e s)
+parts-prop e (version v) = hlevel props
+parts-prop e (transaction n) = hlevel props
+parts-prop e (keep n s) = hlevel props
+parts-prop e (each n s) = hlevel props
+parts-prop e (push n a) = hlevel (props, phrase-prop a)
+parts-prop e (pop n a) = hlevel (props, phrase-prop a)
+parts-prop e (class n a cs) = hlevel (props, attributes-prop a, conditions-prop cs)
+parts-prop e (filter n a cs) = hlevel (props, attributes-prop a, alternatives-prop cs)
+parts-prop e (leaf n u a l ns) = hlevel (props, attributes-prop a, limit-prop l, are-names-prop ns)
+parts-prop e (node n u a ns) = hlevel (props, attributes-prop a, are-names-prop ns)
+
+pub IsValidIn-prop : (e : Edition) (s : Sense) → IsProp (IsValidIn e s)
+IsValidIn-prop e s = hlevel (props, parts-prop e s)

@@ -1,5 +1,5 @@
 -- Words are text.
-use Rattle.policy_text_defs.proofs.Prelude.{List, ℕ, [], refl, ◌≡◌, ◌∷◌, subst, Bool, true, false, sym, arith, codes, ◌≤◌, suc, zero, length, leb, ◌<◌, leb-true, eqb-true, bytes_eq-Decides, list_all, list_any, ◌&&◌, ◌||◌, ◌==◌, nat_le, not, bytes_eq, IsAscii, IsUtf8, begins_word, is_word_byte, most_name, is_name, is_target, is_operand, is_variable, is_word, is_reserved, variables}
+use Rattle.policy_text_defs.proofs.Prelude.{List, ℕ, [], refl, ◌≡◌, ◌∷◌, subst, Bool, true, false, sym, arith, codes, ◌≤◌, suc, zero, length, leb, ◌<◌, leb-true, eqb-true, bytes_eq-Decides, list_all, list_any, ◌&&◌, ◌||◌, ◌==◌, nat_le, not, bytes_eq, IsAscii, IsUtf8, begins_word, is_word_byte, is_name_byte, ends_in_dash, most_name, is_name, is_target, is_operand, is_variable, is_word, is_reserved, variables}
 use Rattle.std.specs.Int.{is_in_range}
 use Rattle.std.proofs.lemmas.Str.{IsUtf8-from_ascii}
 use Rattle.policy_text_defs.proofs.TokenLaws.{both_true}
@@ -17,13 +17,23 @@ byte_case false false false false b is_p is_q is_r is_s e = absurd cc
 word_byte_ascii : (b : ℕ) → is_word_byte b ≡ true → b < 128
 word_byte_ascii b is = byte_case (is_in_range 65 90 b) (is_in_range 97 122 b) (b == 95) (is_in_range 48 57 b) b refl refl refl refl is
 
-ascii : (w : List ℕ) → list_all is_word_byte w ≡ true → IsAscii w
+name_case : (u v : Bool) (b : ℕ) → is_word_byte b ≡ u → (b == 45) ≡ v → (u || v) ≡ true → b < 128
+name_case true v b is_u is_v e = word_byte_ascii b is_u
+name_case false true b is_u is_v e = omega (arith, eqb-true b 45 is_v)
+name_case false false b is_u is_v e = absurd cc
+
+name_byte_ascii : (b : ℕ) → is_name_byte b ≡ true → b < 128
+name_byte_ascii b is = name_case (is_word_byte b) (b == 45) b refl refl is
+
+ascii : (w : List ℕ) → list_all is_name_byte w ≡ true → IsAscii w
 ascii [] all i = omega arith
-ascii (b ∷ bs) all zero = word_byte_ascii b (both_true (is_word_byte b) (list_all is_word_byte bs) all).0
-ascii (b ∷ bs) all (suc i) = ascii bs (both_true (is_word_byte b) (list_all is_word_byte bs) all).1 i
+ascii (b ∷ bs) all zero = name_byte_ascii b (both_true (is_name_byte b) (list_all is_name_byte bs) all).0
+ascii (b ∷ bs) all (suc i) = ascii bs (both_true (is_name_byte b) (list_all is_name_byte bs) all).1 i
 
 word_utf8 : (w : List ℕ) → is_word w ≡ true → IsUtf8 w
-word_utf8 w is = IsUtf8-from_ascii w (ascii w (both_true (begins_word w) (list_all is_word_byte w) is).1)
+word_utf8 w is =
+    let bytes = (both_true (begins_word w) (list_all is_name_byte w && not (ends_in_dash w)) is).1 in
+    IsUtf8-from_ascii w (ascii w (both_true (list_all is_name_byte w) (not (ends_in_dash w)) bytes).0)
 
 pub is_name_utf8 : (w : List ℕ) → is_name w ≡ true → IsUtf8 w
 is_name_utf8 w is = word_utf8 w (both_true (is_word w) (nat_le (length w) most_name && not (is_reserved w)) is).0

@@ -1,7 +1,7 @@
 -- The canonical text of statements: one statement a line and one space between tokens. There is no
 -- space around `..`, inside an address, between a function's name and `(`, after `(`, or before `)`
 -- and `,`.
-use Rattle.std.specs.Prelude.{◌≡◌, refl, ℕ, ◌==◌, ◌/◌, ◌%◌, if◌then◌else◌, Bool, true, false, List, [], ◌∷◌, ◌++◌, Option, Some, None, codes}
+use Rattle.std.specs.Prelude.{◌≡◌, refl, ℕ, zero, suc, ◌==◌, ◌/◌, ◌%◌, if◌then◌else◌, Bool, true, false, List, [], ◌∷◌, ◌++◌, map, Option, Some, None, codes}
 use Rattle.std.specs.Fmt.{decimal, digits}
 use Rattle.rank_defs.specs.declared.expression.Op.{Op}
 use Rattle.rank_defs.specs.declared.expression.Op.TheVariants.{Add, Sub, Mul, Div, Less, LessEq, Equal, NotEqual, MoreEq, More, Min, Max, And, Or}
@@ -12,10 +12,22 @@ use Rattle.policy_text_defs.specs.declared.attribute.Attribute.TheVariants as at
 use Rattle.policy_text_defs.specs.declared.condition.Condition.{Condition}
 use Rattle.policy_text_defs.specs.declared.condition.Condition.TheVariants as condition
 use Rattle.policy_text_defs.specs.declared.condition.FieldName.TheVariants as field
+use Rattle.std.specs.Net.Text.{hex_groups_text, hex}
+use Rattle.policy_text_defs.specs.declared.test.Range.{Range}
+use Rattle.policy_text_defs.specs.declared.test.TestField.TheVariants.{Named, Pcp}
+use Rattle.policy_text_defs.specs.declared.test.Prefix.{Prefix}
+use Rattle.policy_text_defs.specs.declared.test.Prefix.TheVariants.{V4, V6}
+use Rattle.policy_text_defs.specs.declared.test.Flag.{Flag}
+use Rattle.policy_text_defs.specs.declared.test.Flag.TheVariants.{Fin, Syn, Rst, Psh, Ack, Urg, Ece, Cwr}
+use Rattle.policy_text_defs.specs.declared.test.TcpFlags.{TcpFlags}
+use Rattle.policy_text_defs.specs.declared.test.Probe.{Probe}
+use Rattle.policy_text_defs.specs.declared.test.Probe.TheVariants as probe
+use Rattle.policy_text_defs.specs.declared.test.Test.{Test}
+use Rattle.policy_text_defs.specs.Tests.{test_field_word, range_at, has_flag, with_flag, no_flags, flag_word, test_at, joined}
 use Rattle.policy_text_defs.specs.Words.{attribute_word, field_word}
 use Rattle.policy_text_defs.specs.Phrase.{Phrase, number, word, two, negation, choice}
-use Rattle.policy_text_defs.specs.Statements.{Octets}
-use Rattle.policy_text_defs.specs.Sense.{Sense, version, transaction, keep, each, push, pop, class, leaf, node}
+use Rattle.policy_text_defs.specs.Addresses.{Octets}
+use Rattle.policy_text_defs.specs.Sense.{Sense, version, transaction, keep, each, push, pop, class, filter, leaf, node}
 
 -- how an operation is written
 abbrev pub op_text : Op → List ℕ
@@ -112,6 +124,79 @@ abbrev pub guard_text : List Condition → List ℕ
 guard_text [] = []
 guard_text (c ∷ cs) = codes " when " ++ (condition_text c ++ more_conditions_text cs)
 
+-- ---- conditions of the third edition: ranges in the order in which they were given, numbers in
+-- place of names, each address with its prefix length
+
+-- each item after the separator
+abbrev pub each_after : {A : Type 0} → List ℕ → (A → List ℕ) → List A → List ℕ
+each_after separator text [] = []
+each_after separator text (a ∷ others) = separator ++ (text a ++ each_after separator text others)
+
+abbrev pub range_of_text : Range → List ℕ
+range_of_text r = range_text r.low r.high
+
+-- one range, or ranges in braces
+abbrev pub ranges_text : List Range → List ℕ
+ranges_text [] = []
+ranges_text (r ∷ []) = range_of_text r
+ranges_text (r ∷ q ∷ rs) = codes "{" ++ (range_of_text r ++ (each_after (codes ", ") range_of_text (q ∷ rs) ++ codes "}"))
+
+-- the K segments of 16 bits at the end of a number, before others
+abbrev pub segments_before : ℕ → ℕ → List ℕ → List ℕ
+segments_before zero a later = later
+segments_before (suc k) a later = segments_before k (a / 65536) ((a % 65536) ∷ later)
+
+-- the segments of an IPv6 address, the most significant first
+abbrev pub segments_of : ℕ → List ℕ
+segments_of a = segments_before 8 a []
+
+-- an address as in RFC 5952, in hexadecimal groups also if it is IPv4-mapped, and its prefix length
+abbrev pub prefix_text : Prefix → List ℕ
+prefix_text (V4 a l) = address_text a l
+prefix_text (V6 a l) = hex_groups_text (segments_of a) ++ (codes "/" ++ decimal l)
+
+abbrev pub all_flags : List Flag
+all_flags = Fin ∷ Syn ∷ Rst ∷ Psh ∷ Ack ∷ Urg ∷ Ece ∷ Cwr ∷ []
+
+-- those of the flags that are set
+abbrev pub set_among : TcpFlags → List Flag → List Flag
+set_among a [] = []
+set_among a (k ∷ ks) = if has_flag k a then (k ∷ set_among a ks) else set_among a ks
+
+-- flags with `+` between them, or `none`
+abbrev pub listed_text : List Flag → List ℕ
+listed_text [] = codes "none"
+listed_text (k ∷ ks) = flag_word k ++ each_after (codes "+") flag_word ks
+
+abbrev pub flags_text : TcpFlags → List ℕ
+flags_text a = listed_text (set_among a all_flags)
+
+abbrev pub probe_text : Probe → List ℕ
+probe_text (probe.Among f rs) = test_field_word f ++ (codes " " ++ ranges_text rs)
+probe_text (probe.Source p) = codes "src " ++ prefix_text p
+probe_text (probe.Dest p) = codes "dst " ++ prefix_text p
+probe_text (probe.Flags v k) = codes "tcpflags " ++ (flags_text v ++ (codes "/" ++ flags_text k))
+probe_text probe.Ipv4 = codes "ipv4"
+probe_text probe.Ipv6 = codes "ipv6"
+
+-- `not ` before the probe of a negated test
+abbrev pub not_text : Bool → List ℕ
+not_text true = codes "not "
+not_text false = []
+
+abbrev pub test_text : Test → List ℕ
+test_text t = not_text t.negated ++ probe_text t.probe
+
+-- TEST {and TEST}
+abbrev pub tests_text : List Test → List ℕ
+tests_text [] = []
+tests_text (t ∷ ts) = test_text t ++ each_after (codes " and ") test_text ts
+
+-- ` when ALL {or ALL}`, or nothing
+abbrev pub alternatives_text : List (List Test) → List ℕ
+alternatives_text [] = []
+alternatives_text (c ∷ cs) = codes " when " ++ (tests_text c ++ each_after (codes " or ") tests_text cs)
+
 -- an attribute with the space before it, or nothing if it isn't set
 abbrev pub attribute_text : Attribute → Option ℕ → List ℕ
 attribute_text k None = []
@@ -148,6 +233,7 @@ statement_text (each n s) = declaration_text (codes "each ") n s
 statement_text (push n a) = assignment_text (codes "push ") n a
 statement_text (pop n a) = assignment_text (codes "pop ") n a
 statement_text (class n a cs) = codes "class " ++ (n ++ (attributes_text a ++ guard_text cs))
+statement_text (filter n a cs) = codes "class " ++ (n ++ (attributes_text a ++ alternatives_text cs))
 statement_text (leaf n u a l ns) = codes "leaf " ++ (n ++ (codes " using " ++ (u ++ (attributes_text a ++ (limit_text l ++ (codes " classes" ++ names_text ns))))))
 statement_text (node n u a ns) = codes "node " ++ (n ++ (codes " using " ++ (u ++ (attributes_text a ++ (codes " children" ++ names_text ns)))))
 
@@ -179,3 +265,19 @@ lines_have_ends = refl
 a_limit_follows_the_attributes : canonical_text (version 2 ∷ leaf (codes "root") (codes "fifo") (record { prio = None; weight = Some 4; slack = None }) (Some 64) (codes "a" ∷ []) ∷ []) ≡ codes "policy 2\nleaf root using fifo weight 4 limit 64 classes a\n"
 unfolding digits
 a_limit_follows_the_attributes = refl
+
+ranges_in_braces : map ranges_text ((range_at 80 80 ∷ []) ∷ (range_at 80 80 ∷ range_at 443 443 ∷ range_at 8000 8099 ∷ []) ∷ []) ≡ codes "80" ∷ codes "{80, 443, 8000..8099}" ∷ []
+unfolding digits
+ranges_in_braces = refl
+
+-- the longest run of zeros is left out, and a mapped address has no dots
+addresses_of_version_6 : map prefix_text (V6 (joined (0x2001 ∷ 0xdb8 ∷ 0 ∷ 0 ∷ 0 ∷ 0 ∷ 0 ∷ 0 ∷ [])) 32 ∷ V6 1 128 ∷ V6 (joined (0 ∷ 0 ∷ 0 ∷ 0 ∷ 0 ∷ 0xffff ∷ 0x0a00 ∷ 1 ∷ [])) 128 ∷ V6 0 0 ∷ []) ≡ codes "2001:db8::/32" ∷ codes "::1/128" ∷ codes "::ffff:a00:1/128" ∷ codes "::/0" ∷ []
+unfolding digits hex_groups_text hex
+addresses_of_version_6 = refl
+
+flags_in_order : map flags_text (with_flag Fin (with_flag Ack no_flags) ∷ with_flag Cwr no_flags ∷ no_flags ∷ []) ≡ codes "fin+ack" ∷ codes "cwr" ∷ codes "none" ∷ []
+flags_in_order = refl
+
+alternatives_are_joined : alternatives_text ((test_at false (probe.Among (Named field.Proto) (range_at 6 6 ∷ [])) ∷ test_at true (probe.Flags (with_flag Syn no_flags) (with_flag Syn (with_flag Ack no_flags))) ∷ []) ∷ (test_at false (probe.Among Pcp (range_at 5 7 ∷ [])) ∷ []) ∷ []) ≡ codes " when proto 6 and not tcpflags syn/syn+ack or pcp 5..7"
+unfolding digits
+alternatives_are_joined = refl

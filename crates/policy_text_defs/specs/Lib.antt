@@ -1,4 +1,6 @@
+pub mod Addresses
 pub mod Canonical
+pub mod Editions
 pub mod Grammar
 pub mod Phrase
 pub mod Ranges
@@ -6,6 +8,10 @@ pub mod Reading
 pub mod Sense
 pub mod StatementReading
 pub mod Statements
+pub mod TestReading
+pub mod Tests
 pub mod Text
+pub mod TokenReading
 pub mod Valid
 pub mod Words
+pub mod EditionNames

@@ -1,6 +1,8 @@
 -- The ranges of the numbers in policy texts.
 use Rattle.std.specs.Prelude.{◌≡◌, refl, ℕ, ◌-◌, ◌^◌, [], ◌∷◌, map}
 use Rattle.rank_defs.specs.Shapes.{max_len, max_prio, max_weight, max_slack}
+use Rattle.policy_text_defs.specs.declared.edition.Edition.{Edition}
+use Rattle.policy_text_defs.specs.declared.edition.Edition.TheVariants.{Classic, Third}
 use Rattle.policy_text_defs.specs.declared.attribute.Attribute.{Attribute}
 use Rattle.policy_text_defs.specs.declared.attribute.Attribute.TheVariants as attribute
 use Rattle.policy_text_defs.specs.declared.condition.FieldName.{FieldName}
@@ -17,12 +19,14 @@ attribute_most attribute.Prio = max_prio
 attribute_most attribute.Weight = max_weight
 attribute_most attribute.Slack = max_slack
 
--- the versions of the language
+-- the first version of the language
 abbrev pub first_version : ℕ
 first_version = 1
 
-abbrev pub last_version : ℕ
-last_version = 2
+-- the greatest version that a statement of an edition may name
+abbrev pub last_version : Edition → ℕ
+last_version Classic = 2
+last_version Third = 3
 
 -- the least and greatest limit of a leaf, in packets
 abbrev pub limit_least : ℕ

@@ -3,6 +3,7 @@ use Rattle.std.specs.Prelude.{◌≡◌, refl, ℕ, suc, List, [], ◌∷◌, Op
 use Rattle.rank_defs.specs.declared.transaction.Span.{Span}
 use Rattle.policy_text_defs.specs.declared.attribute.Attrs.{Attrs}
 use Rattle.policy_text_defs.specs.declared.condition.Condition.{Condition}
+use Rattle.policy_text_defs.specs.declared.test.Test.{Test}
 use Rattle.policy_text_defs.specs.declared.statement.Statement.{Statement}
 use Rattle.policy_text_defs.specs.declared.statement.Statement.TheVariants as statement
 use Rattle.policy_text_defs.specs.Phrase.{Phrase, phrase_of}
@@ -15,6 +16,7 @@ pub data Sense : Type 0 where
   push : (name : List ℕ) → Phrase → Sense
   pop : (name : List ℕ) → Phrase → Sense
   class : (name : List ℕ) → Attrs → List Condition → Sense
+  filter : (name : List ℕ) → Attrs → List (List Test) → Sense
   leaf : (name used : List ℕ) → Attrs → (limit : Option ℕ) → (classes : List (List ℕ)) → Sense
   node : (name used : List ℕ) → Attrs → (children : List (List ℕ)) → Sense
 
@@ -26,6 +28,7 @@ sense_of (statement.Each n s) = each n s
 sense_of (statement.Push n t) = push n (phrase_of t)
 sense_of (statement.Pop n t) = pop n (phrase_of t)
 sense_of (statement.Class n a cs) = class n a cs
+sense_of (statement.Filter n a cs) = filter n a cs
 sense_of (statement.Leaf n u a l ns) = leaf n u a l ns
 sense_of (statement.Node n u a ns) = node n u a ns
 

@@ -1,8 +1,11 @@
 -- Reading a statement from the left, token by token. It serves proofs, as Reading does.
-use Rattle.std.specs.Prelude.{◌≡◌, refl, ℕ, zero, suc, nat_le, Bool, true, false, ◌&&◌, if◌then◌else◌, List, [], ◌∷◌, ◌++◌, length, map, Option, Some, None, codes}
+use Rattle.std.specs.Prelude.{◌≡◌, refl, ℕ, nat_le, Bool, true, false, ◌&&◌, if◌then◌else◌, List, [], ◌∷◌, ◌++◌, map, Option, Some, None, codes}
 use Rattle.rank_defs.specs.declared.transaction.Span.{Span}
 use Rattle.text_core.specs.declared.mark.Mark.TheVariants as m
 use Rattle.text_core.specs.Glyphs.{Glyph, text, figure, sign}
+use Rattle.policy_text_defs.specs.declared.edition.Edition.TheVariants.{Classic, Third}
+use Rattle.policy_text_defs.specs.declared.edition.Mode.{Mode}
+use Rattle.policy_text_defs.specs.declared.edition.Mode.TheVariants.{Opening, Within}
 use Rattle.policy_text_defs.specs.declared.attribute.Attrs.{Attrs}
 use Rattle.policy_text_defs.specs.declared.attribute.Attribute.{Attribute}
 use Rattle.policy_text_defs.specs.declared.condition.FieldName.{FieldName}
@@ -14,41 +17,18 @@ use Rattle.policy_text_defs.specs.declared.condition.Subject.TheVariants as subj
 use Rattle.policy_text_defs.specs.declared.keyword.Keyword.{Keyword}
 use Rattle.policy_text_defs.specs.declared.keyword.Keyword.TheVariants as keyword
 use Rattle.policy_text_defs.specs.Words.{is_name, is_target, attribute_of, subject_of, protocol_of, keyword_of, passing}
-use Rattle.policy_text_defs.specs.Ranges.{attribute_least, attribute_most, first_version, last_version, limit_least, limit_most, field_most, most_octet, most_prefix}
+use Rattle.policy_text_defs.specs.Ranges.{attribute_least, attribute_most, first_version, limit_least, limit_most, field_most}
 use Rattle.policy_text_defs.specs.Phrase.{most_open}
-use Rattle.policy_text_defs.specs.Sense.{Sense, version, transaction, keep, each, push, pop, class, leaf, node}
-use Rattle.policy_text_defs.specs.Statements.{unset, attribute_value, with_attribute, Octets, address_of}
-use Rattle.policy_text_defs.specs.Reading.{Outcome, Reader, ◌>>=◌, ◌>>◌, pure, refuse, pick, given, next, is_sign, is_text, mark, literal, ahead, unit_if, expression, atom}
+use Rattle.policy_text_defs.specs.Editions.{edition_at, last_at}
+use Rattle.policy_text_defs.specs.EditionNames.{has_names}
+use Rattle.policy_text_defs.specs.Sense.{Sense, version, transaction, keep, each, push, pop, class, filter, leaf, node}
+use Rattle.policy_text_defs.specs.Statements.{unset, attribute_value, with_attribute}
+unfoldable pub use Rattle.policy_text_defs.specs.TokenReading.{repeated, many, within, upper, address, prefix_length}
+pub use Rattle.policy_text_defs.specs.TokenReading.{word_of, a_word, figure_of, a_number, number_to, word_ahead, octets_at}
+use Rattle.policy_text_defs.specs.TestReading.{test_guard}
+use Rattle.policy_text_defs.specs.Reading.{Reader, ◌>>=◌, ◌>>◌, pure, refuse, pick, given, next, mark, literal, ahead, expression, atom}
 
--- repeats a step, at most N times, while `take` accepts the next tokens
-unfoldable pub repeated : {K A : Type 0} → (List Glyph → Outcome K) → (K → A → Reader A) → ℕ → A → Reader A
-repeated take step zero a gs = pick (take gs) (Some (a, gs)) (λ t. None)
-repeated take step (suc k) a gs = pick (take gs) (Some (a, gs)) (λ t. (step t.0 a >>= repeated take step k) t.1)
-
-unfoldable pub many : {K A : Type 0} → (List Glyph → Outcome K) → (K → A → Reader A) → A → Reader A
-many take step a gs = repeated take step (length gs) a gs
-
--- ---- one token
-
-abbrev pub word_of : Glyph → Reader (List ℕ)
-word_of (text w) = pure w
-word_of _ = refuse
-
-abbrev pub a_word : Reader (List ℕ)
-a_word = next >>= word_of
-
-abbrev pub figure_of : Glyph → Reader ℕ
-figure_of (figure n) = pure n
-figure_of _ = refuse
-
-abbrev pub a_number : Reader ℕ
-a_number = next >>= figure_of
-
-unfoldable pub within : ℕ → ℕ → Reader ℕ
-within most n = if nat_le n most then pure n else refuse
-
-abbrev pub number_to : ℕ → Reader ℕ
-number_to most = a_number >>= within most
+-- ---- names
 
 unfoldable pub named_by : List ℕ → Reader (List ℕ)
 named_by w = given (λ v. v) (passing is_name w)
@@ -105,9 +85,6 @@ name_last w ns = pure (ns ++ w ∷ [])
 unfoldable pub names : Reader (List (List ℕ))
 names = name >>= (λ w. many (ahead name_ahead) name_last (w ∷ []))
 
-abbrev pub word_ahead : List ℕ → Glyph → Option (Unit {0})
-word_ahead w g = unit_if (is_text w g)
-
 unfoldable pub limit_by : ℕ → Reader (Option ℕ)
 limit_by n = if nat_le limit_least n && nat_le n limit_most then pure (Some n) else refuse
 
@@ -116,10 +93,6 @@ unfoldable pub limit : Reader (Option ℕ)
 limit gs = pick (ahead (word_ahead (codes "limit")) gs) (Some (None, gs)) (λ t. (a_number >>= limit_by) t.1)
 
 -- ---- conditions
-
--- the number after `..`, or the low one if there is no `..`
-unfoldable pub upper : ℕ → Reader ℕ
-upper low gs = pick (ahead (λ g. unit_if (is_sign m.DotDot g)) gs) (Some (low, gs)) (λ t. a_number t.1)
 
 unfoldable pub bounded : FieldName → ℕ → ℕ → Reader Condition
 bounded f low high = if nat_le low high && nat_le high (field_most f) then pure (condition.Field f low high) else refuse
@@ -142,24 +115,6 @@ bounds_at f (sign s) = refuse
 
 abbrev pub bounds : FieldName → Reader Condition
 bounds f = next >>= bounds_at f
-
-abbrev pub octets_at : ℕ → ℕ → ℕ → ℕ → Octets
-octets_at a b c d = record { first = a; second = b; third = c; fourth = d }
-
-unfoldable pub address : Reader ℕ
-address = do
-  a ← number_to most_octet
-  mark m.Dot
-  b ← number_to most_octet
-  mark m.Dot
-  c ← number_to most_octet
-  mark m.Dot
-  d ← number_to most_octet
-  pure (address_of (octets_at a b c d))
-
--- the number after `/`, or the greatest length if there is no `/`
-unfoldable pub prefix_length : Reader ℕ
-prefix_length gs = pick (ahead (λ g. unit_if (is_sign m.Slash g)) gs) (Some (most_prefix, gs)) (λ t. number_to most_prefix t.1)
 
 unfoldable pub source_rest : Reader Condition
 source_rest = do
@@ -195,8 +150,8 @@ guard gs = pick (ahead (word_ahead (codes "when")) gs) (Some ([], gs)) (λ t. co
 
 -- ---- statements, after their first words
 
-unfoldable pub version_by : ℕ → Reader Sense
-version_by n = if nat_le first_version n && nat_le n last_version then pure (version n) else refuse
+unfoldable pub version_by : Mode → ℕ → Reader Sense
+version_by m n = if nat_le first_version n && nat_le n (last_at m) then pure (version n) else refuse
 
 unfoldable pub transaction_rest : Reader Sense
 transaction_rest = name >>= (λ n. pure (transaction n))
@@ -234,6 +189,19 @@ class_rest = do
   cs ← guard
   pure (class n a cs)
 
+unfoldable pub filter_rest : Reader Sense
+filter_rest = do
+  n ← name
+  a ← attributes
+  cs ← test_guard
+  pure (filter n a cs)
+
+-- a class of the edition; the first line of a text is a classic one
+abbrev pub class_by : Mode → Reader Sense
+class_by (Opening e) = class_rest
+class_by (Within Classic) = class_rest
+class_by (Within Third) = filter_rest
+
 unfoldable pub leaf_rest : Reader Sense
 leaf_rest = do
   n ← name
@@ -255,39 +223,47 @@ node_rest = do
   ns ← names
   pure (node n u a ns)
 
-abbrev pub rest_by : Option Keyword → Reader Sense
-rest_by None = refuse
-rest_by (Some keyword.Policy) = a_number >>= version_by
-rest_by (Some keyword.Transaction) = transaction_rest
-rest_by (Some keyword.Keep) = keep_rest
-rest_by (Some keyword.Each) = each_rest
-rest_by (Some keyword.Push) = push_rest
-rest_by (Some keyword.Pop) = pop_rest
-rest_by (Some keyword.Class) = class_rest
-rest_by (Some keyword.Leaf) = leaf_rest
-rest_by (Some keyword.Node) = node_rest
+abbrev pub rest_by : Mode → Option Keyword → Reader Sense
+rest_by m None = refuse
+rest_by m (Some keyword.Policy) = a_number >>= version_by m
+rest_by m (Some keyword.Transaction) = transaction_rest
+rest_by m (Some keyword.Keep) = keep_rest
+rest_by m (Some keyword.Each) = each_rest
+rest_by m (Some keyword.Push) = push_rest
+rest_by m (Some keyword.Pop) = pop_rest
+rest_by m (Some keyword.Class) = class_by m
+rest_by m (Some keyword.Leaf) = leaf_rest
+rest_by m (Some keyword.Node) = node_rest
 
-unfoldable pub a_statement : Reader Sense
-a_statement = a_word >>= (λ w. rest_by (keyword_of w))
+unfoldable pub a_form : Mode → Reader Sense
+a_form m = a_word >>= (λ w. rest_by m (keyword_of w))
+
+-- the statement, if the edition in which it is read has its names
+unfoldable pub named_at : Mode → Sense → Reader Sense
+named_at m s = if has_names (edition_at m s) s then pure s else refuse
+
+unfoldable pub a_statement : Mode → Reader Sense
+a_statement m = a_form m >>= named_at m
+
+-- `policy 3` is a statement in the third edition, or as the first one if the reader reads it
+the_third_version : map (λ (m : Mode). a_statement m (text (codes "policy") ∷ figure 3 ∷ [])) (Opening Third ∷ Opening Classic ∷ Within Third ∷ Within Classic ∷ []) ≡ Some (version 3, []) ∷ None ∷ Some (version 3, []) ∷ None ∷ []
+unfolding a_statement a_form named_at version_by
+the_third_version = refl
+
+-- there is no version 0, and none above the last one
+no_versions : map (λ n. a_statement (Opening Third) (text (codes "policy") ∷ figure n ∷ [])) (0 ∷ 1 ∷ 2 ∷ 4 ∷ []) ≡ None ∷ Some (version 1, []) ∷ Some (version 2, []) ∷ None ∷ []
+unfolding a_statement a_form named_at version_by
+no_versions = refl
+
+-- only a line of the third edition may name `a-b`, and the first line of a text isn't one
+names_are_of_one_edition : map (λ (m : Mode). a_statement m (text (codes "transaction") ∷ text (codes "a-b") ∷ [])) (Opening Third ∷ Within Classic ∷ Within Third ∷ []) ≡ None ∷ None ∷ Some (transaction (codes "a-b"), []) ∷ []
+unfolding a_statement a_form named_at transaction_rest named_by
+names_are_of_one_edition = refl
 
 -- a protocol is at most 255, by its number or by its name
 protocols : map (λ g. a_condition (text (codes "proto") ∷ g ∷ [])) (figure 255 ∷ figure 256 ∷ text (codes "udp") ∷ text (codes "gre") ∷ []) ≡ Some (condition.Field field_name.Proto 255 255, []) ∷ None ∷ Some (condition.Field field_name.Proto 17 17, []) ∷ None ∷ []
 unfolding a_condition upper bounded
 protocols = refl
-
--- each of the four numbers is at most 255
-octets : map (λ n. address (figure n ∷ sign m.Dot ∷ figure 0 ∷ sign m.Dot ∷ figure 2 ∷ sign m.Dot ∷ figure 1 ∷ [])) (255 ∷ 256 ∷ []) ≡ Some (4278190593, []) ∷ None ∷ []
-unfolding address within
-octets = refl
-
-last_octets : map (λ n. address (figure 0 ∷ sign m.Dot ∷ figure 0 ∷ sign m.Dot ∷ figure 2 ∷ sign m.Dot ∷ figure n ∷ [])) (255 ∷ 256 ∷ []) ≡ Some (767, []) ∷ None ∷ []
-unfolding address within
-last_octets = refl
-
--- a prefix has 0 to 32 bits, and 32 if none is written
-prefixes : map prefix_length ((sign m.Slash ∷ figure 0 ∷ []) ∷ (sign m.Slash ∷ figure 32 ∷ []) ∷ (sign m.Slash ∷ figure 33 ∷ []) ∷ [] ∷ []) ≡ Some (0, []) ∷ Some (32, []) ∷ None ∷ Some (32, []) ∷ []
-unfolding prefix_length within
-prefixes = refl
 
 -- a range's ends may be equal, but LOW may not be above HIGH; the last pair is too large for a port
 ranges : map (λ (p : ℕ × ℕ). bounds field_name.Dport (figure p.0 ∷ sign m.DotDot ∷ figure p.1 ∷ [])) ((80, 80) ∷ (81, 80) ∷ (0, 65535) ∷ (0, 65536) ∷ []) ≡ Some (condition.Field field_name.Dport 80 80, []) ∷ None ∷ Some (condition.Field field_name.Dport 0 65535, []) ∷ None ∷ []

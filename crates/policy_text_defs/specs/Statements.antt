@@ -1,9 +1,11 @@
 -- The forms of statements, over complete lists of tokens.
-use Rattle.std.specs.Prelude.{◌≡◌, refl, ℕ, ◌+◌, ◌*◌, ◌≤◌, ◌<◌, true, List, [], ◌∷◌, ◌++◌, length, map, Option, Some, None, codes}
+use Rattle.std.specs.Prelude.{◌≡◌, refl, ℕ, ◌≤◌, ◌<◌, true, List, [], ◌∷◌, ◌++◌, length, map, Option, Some, None, codes}
 use Rattle.std.proofs.Common.{lit≤}
 use Rattle.std.specs.List.{AllByRecursion}
 use Rattle.rank_defs.specs.declared.transaction.Span.{Span}
 use Rattle.text_core.specs.declared.mark.Mark.TheVariants as m
+use Rattle.policy_text_defs.specs.declared.edition.Edition.{Edition}
+use Rattle.policy_text_defs.specs.declared.edition.Mode.{Mode}
 use Rattle.policy_text_defs.specs.declared.attribute.Attrs.{Attrs}
 use Rattle.policy_text_defs.specs.declared.attribute.Attribute.{Attribute}
 use Rattle.policy_text_defs.specs.declared.attribute.Attribute.TheVariants as attribute
@@ -12,11 +14,16 @@ use Rattle.policy_text_defs.specs.declared.condition.FieldName.TheVariants as fi
 use Rattle.policy_text_defs.specs.declared.condition.Condition.{Condition}
 use Rattle.policy_text_defs.specs.declared.condition.Condition.TheVariants as condition
 use Rattle.policy_text_defs.specs.Words.{is_name, attribute_word, field_word, protocol_of}
-use Rattle.policy_text_defs.specs.Ranges.{attribute_least, attribute_most, first_version, last_version, limit_least, limit_most, field_most, most_octet, most_prefix}
+use Rattle.policy_text_defs.specs.Ranges.{attribute_least, attribute_most, first_version, last_version, limit_least, limit_most, field_most}
 use Rattle.text_core.specs.Glyphs.{Glyph, text, figure, sign}
+pub use Rattle.policy_text_defs.specs.Addresses.{Octets, AreOctets, address_of, octet_tokens, Address, whole, prefix}
 use Rattle.policy_text_defs.specs.Phrase.{Phrase}
-use Rattle.policy_text_defs.specs.Sense.{Sense, version, transaction, keep, each, push, pop, class, leaf, node}
+use Rattle.policy_text_defs.specs.Sense.{Sense, version, transaction, keep, each, push, pop, class, filter, leaf, node}
 use Rattle.policy_text_defs.specs.Grammar.{Spells}
+use Rattle.policy_text_defs.specs.Editions.{edition_at, has_conditions, has_tests}
+use Rattle.policy_text_defs.specs.declared.test.Test.{Test}
+use Rattle.policy_text_defs.specs.Tests.{Alternatives}
+use Rattle.policy_text_defs.specs.EditionNames.{has_names}
 
 -- NAME
 abbrev pub IsName : List ℕ → Type 0
@@ -71,31 +78,6 @@ pub data Range : List Glyph → ℕ → ℕ → Type 0 where
   single : (n : ℕ) → Range (figure n ∷ []) n n
   between : (low high : ℕ) → low ≤ high → Range (figure low ∷ sign m.DotDot ∷ figure high ∷ []) low high
 
--- the four numbers of an IPv4 address
-pub record Octets : Type 0 where
-  pub first : ℕ
-  pub second : ℕ
-  pub third : ℕ
-  pub fourth : ℕ
-
-pub record AreOctets (o : Octets) : Type 0 where
-  pub first : o.first ≤ most_octet
-  pub second : o.second ≤ most_octet
-  pub third : o.third ≤ most_octet
-  pub fourth : o.fourth ≤ most_octet
-
-abbrev pub address_of : Octets → ℕ
-address_of o = o.first * 16777216 + o.second * 65536 + o.third * 256 + o.fourth
-
--- N.N.N.N
-abbrev pub octet_tokens : Octets → List Glyph
-octet_tokens o = figure o.first ∷ sign m.Dot ∷ figure o.second ∷ sign m.Dot ∷ figure o.third ∷ sign m.Dot ∷ figure o.fourth ∷ []
-
--- A: `N.N.N.N` or `N.N.N.N/L`, which gives an address and the length of its prefix
-pub data Address : List Glyph → ℕ → ℕ → Type 0 where
-  whole : (o : Octets) → AreOctets o → Address (octet_tokens o) (address_of o) most_prefix
-  prefix : (o : Octets) (l : ℕ) → AreOctets o → l ≤ most_prefix → Address (octet_tokens o ++ sign m.Slash ∷ figure l ∷ []) (address_of o) l
-
 -- COND: `vlan R`, `dscp R`, `proto R`, `sport R`, `dport R`, `len R`, `proto tcp`, `proto udp`,
 -- `proto icmp`, `src A`, `dst A`, `ipv4`, `ipv6`
 pub data IsCondition : List Glyph → Condition → Type 0 where
@@ -116,10 +98,10 @@ pub data Guard : List Glyph → List Condition → Type 0 where
   unguarded : Guard [] []
   guarded : (ts : List Glyph) (cs : List Condition) → Conditions ts cs → Guard (text (codes "when") ∷ ts) cs
 
--- a version of the language
-pub record IsVersion (v : ℕ) : Type 0 where
+-- a version that a statement of the edition may name
+pub record IsVersion (e : Edition) (v : ℕ) : Type 0 where
   pub above : first_version ≤ v
-  pub below : v ≤ last_version
+  pub below : v ≤ last_version e
 
 -- a limit of a leaf, in packets
 pub record IsLimit (n : ℕ) : Type 0 where
@@ -136,21 +118,23 @@ pub record AreNames (names : List (List ℕ)) : Type 0 where
   pub some : 0 < length names
   pub each : AllByRecursion IsName names
 
--- the tokens of a line have the form of the statement
-pub data IsForm : List Glyph → Sense → Type 0 where
-  version_form : (v : ℕ) → IsVersion v → IsForm (text (codes "policy") ∷ figure v ∷ []) (version v)
-  transaction_form : (n : List ℕ) → IsName n → IsForm (text (codes "transaction") ∷ text n ∷ []) (transaction n)
-  keep_form : (n : List ℕ) (s : Span) → IsName n → IsSpan s → IsForm (text (codes "keep") ∷ text n ∷ span_tokens s) (keep n s)
-  each_form : (n : List ℕ) (s : Span) → IsName n → IsSpan s → IsForm (text (codes "each") ∷ text n ∷ span_tokens s) (each n s)
-  push_form : (n : List ℕ) (ts : List Glyph) (a : Phrase) → IsTarget n → Spells ts a → IsForm (text (codes "push") ∷ text n ∷ sign m.Is ∷ ts) (push n a)
-  pop_form : (n : List ℕ) (ts : List Glyph) (a : Phrase) → IsName n → Spells ts a → IsForm (text (codes "pop") ∷ text n ∷ sign m.Is ∷ ts) (pop n a)
-  class_form : (n : List ℕ) (ts us : List Glyph) (a : Attrs) (cs : List Condition) → IsName n → Attributes ts a → Guard us cs → IsForm (text (codes "class") ∷ text n ∷ ts ++ us) (class n a cs)
-  leaf_form : (n u : List ℕ) (ts ls : List Glyph) (a : Attrs) (l : Option ℕ) (ns : List (List ℕ)) → IsName n → IsName u → Attributes ts a → Limit ls l → AreNames ns → IsForm (text (codes "leaf") ∷ text n ∷ text (codes "using") ∷ text u ∷ ts ++ (ls ++ text (codes "classes") ∷ map text ns)) (leaf n u a l ns)
-  node_form : (n u : List ℕ) (ts : List Glyph) (a : Attrs) (ns : List (List ℕ)) → IsName n → IsName u → Attributes ts a → AreNames ns → IsForm (text (codes "node") ∷ text n ∷ text (codes "using") ∷ text u ∷ ts ++ text (codes "children") ∷ map text ns) (node n u a ns)
+-- the tokens of a line have the form of the statement in this edition
+pub data IsForm (e : Edition) : List Glyph → Sense → Type 0 where
+  version_form : (v : ℕ) → IsVersion e v → IsForm e (text (codes "policy") ∷ figure v ∷ []) (version v)
+  transaction_form : (n : List ℕ) → IsName n → IsForm e (text (codes "transaction") ∷ text n ∷ []) (transaction n)
+  keep_form : (n : List ℕ) (s : Span) → IsName n → IsSpan s → IsForm e (text (codes "keep") ∷ text n ∷ span_tokens s) (keep n s)
+  each_form : (n : List ℕ) (s : Span) → IsName n → IsSpan s → IsForm e (text (codes "each") ∷ text n ∷ span_tokens s) (each n s)
+  push_form : (n : List ℕ) (ts : List Glyph) (a : Phrase) → IsTarget n → Spells ts a → IsForm e (text (codes "push") ∷ text n ∷ sign m.Is ∷ ts) (push n a)
+  pop_form : (n : List ℕ) (ts : List Glyph) (a : Phrase) → IsName n → Spells ts a → IsForm e (text (codes "pop") ∷ text n ∷ sign m.Is ∷ ts) (pop n a)
+  class_form : has_conditions e ≡ true → (n : List ℕ) (ts us : List Glyph) (a : Attrs) (cs : List Condition) → IsName n → Attributes ts a → Guard us cs → IsForm e (text (codes "class") ∷ text n ∷ ts ++ us) (class n a cs)
+  filter_form : has_tests e ≡ true → (n : List ℕ) (ts us : List Glyph) (a : Attrs) (cs : List (List Test)) → IsName n → Attributes ts a → Alternatives us cs → IsForm e (text (codes "class") ∷ text n ∷ ts ++ us) (filter n a cs)
+  leaf_form : (n u : List ℕ) (ts ls : List Glyph) (a : Attrs) (l : Option ℕ) (ns : List (List ℕ)) → IsName n → IsName u → Attributes ts a → Limit ls l → AreNames ns → IsForm e (text (codes "leaf") ∷ text n ∷ text (codes "using") ∷ text u ∷ ts ++ (ls ++ text (codes "classes") ∷ map text ns)) (leaf n u a l ns)
+  node_form : (n u : List ℕ) (ts : List Glyph) (a : Attrs) (ns : List (List ℕ)) → IsName n → IsName u → Attributes ts a → AreNames ns → IsForm e (text (codes "node") ∷ text n ∷ text (codes "using") ∷ text u ∷ ts ++ text (codes "children") ∷ map text ns) (node n u a ns)
 
--- the first number is the most significant
-bytes_of_an_address : address_of (record { first = 10; second = 9; third = 0; fourth = 1 }) ≡ 168361985
-bytes_of_an_address = refl
+-- the same in the edition in which the mode reads the statement, which has the names in it
+pub record IsFormAt (m : Mode) (gs : List Glyph) (s : Sense) : Type 0 where
+  pub form : IsForm (edition_at m s) gs s
+  pub named : has_names (edition_at m s) s ≡ true
 
 one_attribute_is_set : with_attribute attribute.Weight 3 (record { prio = Some 1; weight = None; slack = Some 0 }) ≡ record { prio = Some 1; weight = Some 3; slack = Some 0 }
 one_attribute_is_set = refl

@@ -1,9 +1,11 @@
 -- The words of the language.
-use Rattle.std.specs.Prelude.{◌≡◌, refl, ℕ, nat_le, Bool, true, false, not, ◌&&◌, ◌||◌, List, [], ◌∷◌, length, map, replicate, Option, Some, None, if◌then◌else◌, codes}
+use Rattle.std.specs.Prelude.{◌≡◌, refl, ℕ, ◌-◌, ◌==◌, nat_le, Bool, true, false, not, ◌&&◌, ◌||◌, List, [], ◌∷◌, length, slice_index, map, replicate, Option, Some, None, if◌then◌else◌, codes}
 use Rattle.std.specs.List.{list_all, list_any}
 use Rattle.std.specs.Str.{bytes_eq}
 use Rattle.text_core.specs.Tokens.{begins_word, is_word_byte, most_name}
 use Rattle.rank_defs.specs.declared.expression.Op.TheVariants as op
+use Rattle.policy_text_defs.specs.declared.edition.Edition.{Edition}
+use Rattle.policy_text_defs.specs.declared.edition.Edition.TheVariants.{Classic, Third}
 use Rattle.policy_text_defs.specs.declared.function.Function.{Function}
 use Rattle.policy_text_defs.specs.declared.function.Function.TheVariants as function
 use Rattle.policy_text_defs.specs.declared.keyword.Keyword.{Keyword}
@@ -28,12 +30,42 @@ abbrev pub is_reserved : List ℕ → Bool
 is_reserved w = list_any (bytes_eq w) reserved
 
 -- a letter or `_`, then letters, digits and `_`
-abbrev pub is_word : List ℕ → Bool
-is_word w = begins_word w && list_all is_word_byte w
+abbrev pub is_plain_word : List ℕ → Bool
+is_plain_word w = begins_word w && list_all is_word_byte w
 
--- a word that isn't reserved and isn't too long
+-- letters, digits, `_` and `-`
+abbrev pub is_name_byte : ℕ → Bool
+is_name_byte b = is_word_byte b || b == 45
+
+-- the last byte is `-`
+abbrev pub ends_in_dash : List ℕ → Bool
+ends_in_dash w = slice_index w (length w - 1) == 45
+
+-- a letter or `_`, then letters, digits, `_` and `-`, where the last byte isn't `-`
+abbrev pub is_word : List ℕ → Bool
+is_word w = begins_word w && (list_all is_name_byte w && not (ends_in_dash w))
+
+-- a word that isn't reserved and isn't too long: a name of one of the editions
 abbrev pub is_name : List ℕ → Bool
 is_name w = is_word w && (nat_le (length w) most_name && not (is_reserved w))
+
+-- the words that only the third edition reserves
+abbrev pub later_reserved : List (List ℕ)
+later_reserved =
+    codes "flow" ∷ codes "packets" ∷ codes "bytes" ∷ codes "per" ∷ codes "by" ∷ codes "tcpflags" ∷ codes "pcp" ∷ codes "ethertype" ∷ codes "any" ∷ []
+
+abbrev pub is_later_reserved : List ℕ → Bool
+is_later_reserved w = list_any (bytes_eq w) later_reserved
+
+-- what one edition asks of a name: the classic one has no `-` in names, and the third one reserves
+-- more words
+abbrev pub has_name : Edition → List ℕ → Bool
+has_name Classic w = list_all is_word_byte w
+has_name Third w = not (is_later_reserved w)
+
+-- a name of this edition
+abbrev pub is_name_in : Edition → List ℕ → Bool
+is_name_in e w = is_name w && has_name e w
 
 -- the reserved words that denote numbers in expressions
 abbrev pub variables : List (List ℕ)
@@ -141,8 +173,18 @@ no_word_of_the_language_is_a_name = refl
 names : list_all is_name (codes "root" ∷ codes "fifo" ∷ codes "Leaf" ∷ codes "LEN" ∷ codes "leafs" ∷ codes "key" ∷ codes "min_" ∷ codes "ip" ∷ codes "icmpv6" ∷ codes "_" ∷ codes "w1" ∷ []) ≡ true
 names = refl
 
-no_names : list_any is_name (codes "" ∷ codes "1w" ∷ codes "a-b" ∷ codes "a b" ∷ []) ≡ false
+no_names : list_any is_name (codes "" ∷ codes "1w" ∷ codes "a b" ∷ codes "-a" ∷ codes "a-" ∷ codes "a:b" ∷ []) ≡ false
 no_names = refl
+
+-- only the third edition has names with `-`, and only there these words are reserved
+names_of_the_third_edition : map (is_name_in Third) (codes "a-b" ∷ codes "a--b_1" ∷ codes "a-" ∷ codes "flow" ∷ codes "flows" ∷ codes "any" ∷ codes "leaf" ∷ codes "web" ∷ []) ≡ true ∷ true ∷ false ∷ false ∷ true ∷ false ∷ false ∷ true ∷ []
+names_of_the_third_edition = refl
+
+names_of_the_classic_edition : map (is_name_in Classic) (codes "a-b" ∷ codes "flow" ∷ codes "any" ∷ codes "leaf" ∷ codes "web" ∷ []) ≡ false ∷ true ∷ true ∷ false ∷ true ∷ []
+names_of_the_classic_edition = refl
+
+no_later_word_is_a_name : list_any (is_name_in Third) later_reserved ≡ false
+no_later_word_is_a_name = refl
 
 sixty_four_bytes_are_a_name : map (λ n. is_name (replicate n 97)) (1 ∷ 64 ∷ 65 ∷ []) ≡ true ∷ true ∷ false ∷ []
 sixty_four_bytes_are_a_name = refl

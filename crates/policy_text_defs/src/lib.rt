@@ -5,10 +5,13 @@
 mod attribute;
 mod canonical;
 mod condition;
+mod edition;
 mod function;
 mod keyword;
+mod readers;
 mod statement;
 mod term;
+mod test;
 mod word;
 
 pub use attribute::{Attribute, Attrs};
@@ -16,8 +19,11 @@ pub use canonical::{
     canonical_text_reads_back, texts_have_one_list_of_statements, written_statements_are_valid,
 };
 pub use condition::{Condition, FieldName, Subject, protocol_of};
+pub use edition::{Edition, Mode};
 pub use function::Function;
 pub use keyword::Keyword;
+pub use readers::later_readers_read_earlier_texts;
 pub use statement::Statement;
 pub use term::Term;
-pub use word::{is, is_among, is_variable, name_of, operand_of, target_of};
+pub use test::{Flag, Prefix, Probe, Range, TcpFlags, Test, TestField, TestSubject};
+pub use word::{has_name, is, is_among, is_variable, name_of, operand_of, target_of};

@@ -2,6 +2,7 @@
 use crate::attribute::Attrs;
 use crate::condition::Condition;
 use crate::term::Term;
+use crate::test::Test;
 use list_core::{List, Name};
 use rank_defs::Span;
 
@@ -17,7 +18,10 @@ pub enum Statement {
     /// The variable that a push sets, or `rank`, and its new value.
     Push(Name, Term),
     Pop(Name, Term),
+    /// A class of the classic edition.
     Class(Name, Attrs, List<Condition>),
+    /// A class of the third edition. Each packet meets a class without alternatives.
+    Filter(Name, Attrs, List<List<Test>>),
     /// The leaf, its transaction, its attributes, its limit in packets (if it has one), and its
     /// classes.
     Leaf(Name, Name, Attrs, Option<u32>, List<Name>),

@@ -3,7 +3,9 @@ ghost use Rattle.std.specs.Prelude.{◌≡◌, true, option_map};
 ghost use Rattle.std.specs.List.{list_all, list_any};
 ghost use Rattle.std.specs.Str.{bytes_eq, IsUtf8};
 ghost use Rattle.text_core.specs.Tokens.{begins_word, is_word_byte};
-ghost use Rattle.policy_text_defs.specs.Words.{is_reserved, is_variable, is_name, is_operand, is_target, is_word, some_if, passing};
+ghost use Rattle.policy_text_defs.specs.Words.{is_reserved, is_later_reserved, is_variable, is_name, is_name_byte, is_operand, is_target, is_word, ends_in_dash, has_name, some_if, passing};
+
+use crate::edition::Edition;
 
 /// The greatest length of a name, in bytes.
 const MOST_NAME: usize = 64;
@@ -51,6 +53,19 @@ const RESERVED: [&str; 39] = [
     "limit",
 ];
 
+/// The words that only the third edition reserves.
+const LATER_RESERVED: [&str; 9] = [
+    "flow",
+    "packets",
+    "bytes",
+    "per",
+    "by",
+    "tcpflags",
+    "pcp",
+    "ethertype",
+    "any",
+];
+
 /// The reserved words that denote numbers in expressions.
 const VARIABLES: [&str; 6] = ["len", "now", "prio", "weight", "slack", "rank"];
 
@@ -74,11 +89,39 @@ fn is_reserved(word: &[u8]) -> bool
     is_among(word, &RESERVED)
 }
 
-/// Returns whether the bytes are a word: a letter or `_`, then letters, digits and `_`.
+fn is_later_reserved(word: &[u8]) -> bool
+    ensures { result ≡ is_later_reserved word.now }
+{
+    is_among(word, &LATER_RESERVED)
+}
+
+/// Returns whether the bytes are a word: a letter or `_`, then letters, digits, `_` and `-`, where
+/// the last byte isn't `-`.
 fn is_word(bytes: &[u8]) -> bool
     ensures { result ≡ is_word bytes.now }
 {
-    begins_word(bytes) && are_word_bytes(bytes)
+    begins_word(bytes) && are_name_bytes(bytes) && !ends_in_dash(bytes)
+}
+
+fn are_name_bytes(bytes: &[u8]) -> bool
+    ensures { result ≡ list_all is_name_byte bytes.now }
+{
+    bytes.iter().all(|byte| is_name_byte(*byte))
+}
+
+fn is_name_byte(byte: u8) -> bool
+    ensures { result ≡ is_name_byte byte }
+{
+    is_word_byte(byte) || byte == b'-'
+}
+
+fn ends_in_dash(bytes: &[u8]) -> bool
+    ensures { result ≡ ends_in_dash bytes.now }
+{
+    match bytes {
+        [.., last] => *last == b'-',
+        [] => false,
+    }
 }
 
 fn are_word_bytes(bytes: &[u8]) -> bool
@@ -106,6 +149,17 @@ fn is_name(word: &[u8]) -> bool
     ensures { result ≡ is_name word.now }
 {
     is_word(word) && word.len() <= MOST_NAME && !is_reserved(word)
+}
+
+/// Returns whether a name or operand has only what the edition allows: no `-` in the classic one,
+/// and none of the words that the third one reserves.
+pub fn has_name(edition: Edition, word: &[u8]) -> bool
+    ensures { result ≡ has_name edition word.now }
+{
+    match edition {
+        Edition::Classic => are_word_bytes(word),
+        Edition::Third => !is_later_reserved(word),
+    }
 }
 
 /// Returns whether a word is a reserved word for a number in expressions: `len`, `now`, `prio`,

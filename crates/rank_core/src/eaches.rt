@@ -11,7 +11,7 @@ ghost use Rattle.rank_core.specs.Scope.{memory, run_of, AreCheckedIn, AreShapedI
 
 use crate::flows::FlowTable;
 use crate::form::{Form, run_by_form};
-use rank_defs::{Assign, Env, Transaction, Who};
+use rank_defs::{Assign, Env, FlowKey, Transaction, Who};
 use std::alloc::{AllocError, Global};
 
 /// The values of the `each` variables: for all children of an inner node, or for the flows that
@@ -49,24 +49,24 @@ pub(crate) fn of_flows(alloc: Global, first: &[u64]) -> Eaches
     }
 }
 
-/// Makes room for a child or a flow. New variables get their first values.
+/// Makes room for a flow at a leaf. New variables get their first values. At a leaf whose flows have
+/// no variables, the flow isn't read.
 #[inline(always)]
-pub(crate) fn reserve(eaches: &mut Eaches, who: &Who, first: &[u64]) -> Result<(), AllocError>
-    requires { BelongsTo (children eaches.old) who.now }
-    ensures room { OnOk result (IsSome (kept eaches.new who.now)) }
+pub(crate) fn reserve(eaches: &mut Eaches, flow: &FlowKey, first: &[u64]) -> Result<(), AllocError>
+    requires { BelongsTo (children eaches.old) (Who.Flow flow.now) }
+    ensures room { OnOk result (IsSome (kept eaches.new (Who.Flow flow.now))) }
     ensures same { (w : Who) → kept_or first.now (kept eaches.new w) ≡
         kept_or first.now (kept eaches.old w) }
-    ensures stays { IsSome (kept eaches.old who.now) → IsSome (kept eaches.new who.now) }
-    ensures others { (w : Who) → w ≢ who.now → kept eaches.new w ≡ kept eaches.old w }
+    ensures stays { IsSome (kept eaches.old (Who.Flow flow.now)) →
+        IsSome (kept eaches.new (Who.Flow flow.now)) }
+    ensures others { (w : Who) → w ≢ Who.Flow flow.now → kept eaches.new w ≡ kept eaches.old w }
     ensures err { OnErr result ((w : Who) → kept eaches.new w ≡ kept eaches.old w) }
     ensures children { children eaches.new ≡ children eaches.old }
 {
     match eaches {
-        Eaches::Children(_) | Eaches::Bare => Ok(()),
-        Eaches::Flows(flows) => match who {
-            Who::Flow(flow) => flows.reserve(flow, first),
-            Who::Child(_) => unreachable!(),
-        },
+        Eaches::Bare => Ok(()),
+        Eaches::Flows(flows) => flows.reserve(flow, first),
+        Eaches::Children(_) => unreachable!(),
     }
 }
 

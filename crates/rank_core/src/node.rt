@@ -13,7 +13,7 @@ ghost use Rattle.rank_core.specs.Scope.{AreCheckedIn, AreShapedIn, run_of};
 
 use crate::eaches::{Eaches, of_children, of_flows, reserve, run_for};
 use crate::form::{Form, Kept, pop_form, push_form};
-use rank_defs::{Aim, Assign, Env, Expr, Span, Transaction, Var, Who};
+use rank_defs::{Aim, Assign, Env, Expr, FlowKey, Span, Transaction, Var, Who};
 use std::alloc::{AllocError, Global};
 
 /// The variables of a node: its own, and those of each child or flow.
@@ -77,21 +77,21 @@ impl NodeState {
         })
     }
 
-    /// Makes room for a child or a flow. After that, its steps allocate no memory. The error means
+    /// Makes room for a flow at a leaf. After that, its steps allocate no memory. The error means
     /// out of memory.
     #[inline(always)]
-    pub fn reserve(&mut self, who: &Who) -> Result<(), AllocError>
-        requires belongs { BelongsTo (children_of self.old) who.now }
-        ensures room { OnOk result (HasRoom self.new who.now) }
+    pub fn reserve(&mut self, flow: &FlowKey) -> Result<(), AllocError>
+        requires belongs { BelongsTo (children_of self.old) (Who.Flow flow.now) }
+        ensures room { OnOk result (HasRoom self.new (Who.Flow flow.now)) }
         ensures same { SameState (state_of self.new) (state_of self.old) }
         ensures kept { (other : Who) → HasRoom self.old other → HasRoom self.new other }
-        ensures others { (other : Who) → other ≢ who.now → HasRoom self.new other →
+        ensures others { (other : Who) → other ≢ Who.Flow flow.now → HasRoom self.new other →
             HasRoom self.old other }
         ensures err { OnErr result ((other : Who) → HasRoom self.new other →
             HasRoom self.old other) }
         ensures children { children_of self.new ≡ children_of self.old }
     {
-        reserve(&mut self.eaches, who, self.firsts.as_slice())
+        reserve(&mut self.eaches, flow, self.firsts.as_slice())
     }
 }
 

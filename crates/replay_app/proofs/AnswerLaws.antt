@@ -1,5 +1,5 @@
 -- Contents that are known to the contract, and the statuses of endings.
-use Rattle.replay_app.proofs.Prelude.{ℕ, List, ◌≡◌, refl, ap, ◌∙◌, [], ◌∷◌, Option, Some, None, arith, inr, inl, map, ◌<◌, Bool, ◌⊎◌, Err, Result, Ok, IfOk, IfSome, Stop, Sense, ForwardEnding, Ending, BadCapture, PastLast, Whole, CanEndSo, entries_in, senses_of, ending_status, status_code, IsOneOf, IsStop, forward_status, run_status, IsRefusal, forward_statuses, pace_statuses, paced_statuses, run_statuses, Pacing, forward, link, script, AreTold, Status, Done, BadMap, BadPolicy, BadScript, BadTarget, BadTree, LateStart, NoForm, NoRoom, OtherLink, OverLimit}
+use Rattle.replay_app.proofs.Prelude.{ℕ, List, ◌≡◌, refl, ap, ◌∙◌, [], ◌∷◌, Option, arith, inr, inl, map, ◌<◌, Bool, ◌⊎◌, Err, Result, Ok, IfOk, Stop, Sense, ForwardEnding, Ending, BadCapture, PastLast, Whole, CanEndSo, entries_in, senses_of, ending_status, status_code, IsOneOf, IsStop, forward_status, run_status, IsRefusal, forward_statuses, pace_statuses, paced_statuses, run_statuses, Pacing, forward, link, script, AreTold, Status, Done, BadMap, BadPolicy, BadScript, BadTarget, BadTree, LateStart, NoForm, NoRoom, OtherLink, OverLimit}
 use Rattle.outside_core.specs.Files.{KeepsFiles}
 use Rattle.policy_text_defs.specs.Canonical.{canonical_text}
 use Rattle.policy_text.specs.Entries.{Numbered, entry_of, sense_at}

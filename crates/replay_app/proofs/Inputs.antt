@@ -1,5 +1,5 @@
 -- Each input is rejected with only one code and position, or accepted as only one value.
-use Rattle.replay_app.proofs.Prelude.{subst, sym, ℕ, List, ◌≡◌, refl, ap, ◌∙◌, [], ◌∷◌, arith, length, ◌<◌, ◌≤◌, suc, ◌≢◌, All-cons, All-nil, IsEmbedding, image_map, levels, one-policy, AreAccepted, IsFault, line_of, AreRising, HasEntries, Target, Topology, complete, Tree, Address, IsPolicyRefused, IsPolicy, IsTextRefused, Judged, statements_refused, text_refused, IsPlacement, HasNoRoom, IsTargetOf, IsTargetRefused}
+use Rattle.replay_app.proofs.Prelude.{subst, sym, ℕ, List, ◌≡◌, refl, ap, ◌∙◌, [], ◌∷◌, arith, length, ◌<◌, ◌≤◌, suc, ◌≢◌, All-cons, All-nil, IsEmbedding, image_map, levels, one-policy, AreAccepted, IsFault, line_of, AreRising, HasEntries, Target, Topology, complete, Tree, Address, IsPolicyRefused, IsPolicy, IsTextRefused, Judged, statements_refused, text_refused, IsPlacement, HasNoRoom, IsTargetOf, IsTargetRefused, Edition}
 use Rattle.std.specs.List.{All}
 use Rattle.std.proofs.lemmas.List.Kept.{AllPairs-cons}
 use Rattle.embed_defs.specs.Canonical.{IsCanonical}
@@ -21,37 +21,37 @@ use Rattle.replay_app.specs.Scripts as scripts
 use Rattle.replay_app.proofs.FollowLaws.{AreOne}
 
 -- ---- a policy
-one-text-refusal : (text : List ℕ) (code line d m : ℕ) → IsTextRefused text code line → IsTextRefused text d m → (code ≡ d) × (line ≡ m)
-one-text-refusal text code line d m (at_fault f h) (at_fault g k) =
-    let same : f ≡ g = one_cause text f g h k in
+one-text-refusal : (latest : Edition) (text : List ℕ) (code line d m : ℕ) → IsTextRefused latest text code line → IsTextRefused latest text d m → (code ≡ d) × (line ≡ m)
+one-text-refusal latest text code line d m (at_fault f h) (at_fault g k) =
+    let same : f ≡ g = one_cause latest text f g h k in
     (ap text_code same, ap text_line same)
 
 -- a text that has statements isn't rejected
-none-refused : (text : List ℕ) (es : List Entry) (code line : ℕ) → HasEntries text es → IsTextRefused text code line → ⊥
-none-refused text es code line has (at_fault f h) = entries_no_cause text es f has h
+none-refused : (latest : Edition) (text : List ℕ) (es : List Entry) (code line : ℕ) → HasEntries latest text es → IsTextRefused latest text code line → ⊥
+none-refused latest text es code line has (at_fault f h) = entries_no_cause latest text es f has h
 
 -- accepted statements aren't rejected
-none-faulty : (text : List ℕ) (es fs : List Entry) (f : PolicyFault) → HasEntries text es → AreAccepted es → HasEntries text fs → f ≢ NoMemory → IsFault fs f → ⊥
-none-faulty text es fs f has are has' some is =
-    let same : es ≡ fs = Entries-one 1 _ es fs has.entries has'.entries in
+none-faulty : (latest : Edition) (text : List ℕ) (es fs : List Entry) (f : PolicyFault) → HasEntries latest text es → AreAccepted es → HasEntries latest text fs → f ≢ NoMemory → IsFault fs f → ⊥
+none-faulty latest text es fs f has are has' some is =
+    let same : es ≡ fs = Entries-one _ 1 _ es fs has.entries has'.entries in
     accepted-fault fs f some is (subst AreAccepted same are)
 
-same-fault : (text : List ℕ) (es fs : List Entry) (f g : PolicyFault) → HasEntries text es → f ≢ NoMemory → IsFault es f → HasEntries text fs → g ≢ NoMemory → IsFault fs g → f ≡ g
-same-fault text es fs f g has some is has' some' is' =
-    let same : es ≡ fs = Entries-one 1 _ es fs has.entries has'.entries in
+same-fault : (latest : Edition) (text : List ℕ) (es fs : List Entry) (f g : PolicyFault) → HasEntries latest text es → f ≢ NoMemory → IsFault es f → HasEntries latest text fs → g ≢ NoMemory → IsFault fs g → f ≡ g
+same-fault latest text es fs f g has some is has' some' is' =
+    let same : es ≡ fs = Entries-one _ 1 _ es fs has.entries has'.entries in
     one-fault fs f g some some' (subst (λ xs. IsFault xs f) same is) is'
 
-one-policy-refusal : (text : List ℕ) (code line d m : ℕ) → IsPolicyRefused text code line → IsPolicyRefused text d m → (code ≡ d) × (line ≡ m)
-one-policy-refusal text code line d m (text_refused _ _ h) (text_refused _ _ k) = one-text-refusal text code line d m h k
-one-policy-refusal text code line d m (text_refused _ _ h) (statements_refused fs g k some is) = absurd (none-refused text fs code line k h)
-one-policy-refusal text code line d m (statements_refused es f h some is) (text_refused _ _ k) = absurd (none-refused text es d m h k)
-one-policy-refusal text code line d m (statements_refused es f h some is) (statements_refused fs g k some' is') =
-    let same : f ≡ g = same-fault text es fs f g h some is k some' is' in
+one-policy-refusal : (latest : Edition) (text : List ℕ) (code line d m : ℕ) → IsPolicyRefused latest text code line → IsPolicyRefused latest text d m → (code ≡ d) × (line ≡ m)
+one-policy-refusal latest text code line d m (text_refused _ _ h) (text_refused _ _ k) = one-text-refusal latest text code line d m h k
+one-policy-refusal latest text code line d m (text_refused _ _ h) (statements_refused fs g k some is) = absurd (none-refused latest text fs code line k h)
+one-policy-refusal latest text code line d m (statements_refused es f h some is) (text_refused _ _ k) = absurd (none-refused latest text es d m h k)
+one-policy-refusal latest text code line d m (statements_refused es f h some is) (statements_refused fs g k some' is') =
+    let same : f ≡ g = same-fault latest text es fs f g h some is k some' is' in
     (ap code_of same, ap line_of same)
 
-none-refused-policy : (text : List ℕ) (j : Judged) (code line : ℕ) → IsPolicy text j → IsPolicyRefused text code line → ⊥
-none-refused-policy text j code line p (text_refused _ _ h) = none-refused text j.entries code line p.has h
-none-refused-policy text j code line p (statements_refused fs g k some is) = none-faulty text j.entries fs g p.has p.accepted k some is
+none-refused-policy : (latest : Edition) (text : List ℕ) (j : Judged) (code line : ℕ) → IsPolicy latest text j → IsPolicyRefused latest text code line → ⊥
+none-refused-policy latest text j code line p (text_refused _ _ h) = none-refused latest text j.entries code line p.has h
+none-refused-policy latest text j code line p (statements_refused fs g k some is) = none-faulty latest text j.entries fs g p.has p.accepted k some is
 
 -- the line numbers of a text's statements rise
 later : (k n : ℕ) (es : List Entry) → k < n → Rises n es → All (λ e. k < e.0) es
@@ -63,16 +63,16 @@ rising n [] up = λ i j d less within. absurd (omega arith)
 rising n (e ∷ es) up = AllPairs-cons (λ a b. a.0 < b.0) e es (later e.0 (suc e.0) es (omega arith) up.1) (rising (suc e.0) es up.1)
 
 -- a text gives only one policy
-same-judged : (text : List ℕ) (j k : Judged) → IsPolicy text j → IsPolicy text k → j ≡ k
-same-judged text j k p q =
-    let statements : j.entries ≡ k.entries = Entries-one 1 _ j.entries k.entries p.has.entries q.has.entries in
+same-judged : (latest : Edition) (text : List ℕ) (j k : Judged) → IsPolicy latest text j → IsPolicy latest text k → j ≡ k
+same-judged latest text j k p q =
+    let statements : j.entries ≡ k.entries = Entries-one _ 1 _ j.entries k.entries p.has.entries q.has.entries in
     let accepted : AreAccepted k.entries = q.accepted in
-    let own = subst (λ (es : List Entry). IsPolicy text (record { entries = es; policy = j.policy })) statements p in
-    let policies : j.policy ≡ k.policy = one-policy k.entries j.policy k.policy (rising 1 k.entries (entries_rise 1 _ k.entries q.has.entries)) accepted own.gives q.gives in
+    let own = subst (λ (es : List Entry). IsPolicy latest text (record { entries = es; policy = j.policy })) statements p in
+    let policies : j.policy ≡ k.policy = one-policy k.entries j.policy k.policy (rising 1 k.entries (entries_rise _ 1 _ k.entries q.has.entries)) accepted own.gives q.gives in
     λ i. record { entries = statements i; policy = policies i }
 
-pub policies_are_one : (text : List ℕ) → AreOne (IsPolicyRefused text) (IsPolicy text)
-policies_are_one text = record { one_refusal = one-policy-refusal text; one = same-judged text; no_both = none-refused-policy text }
+pub policies_are_one : (latest : Edition) (text : List ℕ) → AreOne (IsPolicyRefused latest text) (IsPolicy latest text)
+policies_are_one latest text = record { one_refusal = one-policy-refusal latest text; one = same-judged latest text; no_both = none-refused-policy latest text }
 
 -- ---- a target
 pub targets_are_one : (text : List ℕ) → AreOne (IsTargetRefused text) (IsTargetOf text)

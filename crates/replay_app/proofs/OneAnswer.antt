@@ -36,21 +36,21 @@ one-paced watching policy laid (link rate) capture contents = same-answer (laid_
 one-paced watching policy laid (forward rate) capture contents = same-answer (forward_run policy laid (plain_rate rate) capture)
 
 pub one-answer : HaveOneAnswer
-one-answer (replay p t c pacing) contents taps a b x y =
-    one-follows kind.Policy _ _ _ (policies_are_one (contents p)) (λ judged.
+one-answer (replay latest p t c pacing) contents taps a b x y =
+    one-follows kind.Policy _ _ _ (policies_are_one latest (contents p)) (λ judged.
     one-follows kind.Target _ _ _ (targets_are_one (contents t)) (λ target.
     one-follows kind.Size _ _ _ (rooms_are_one (topology_of judged.policy.policy.tree) target) (λ images.
     one-paced (watchers pacing taps) judged.policy (record { images = images; arities = target.arities }) pacing (contents c) contents))) a b x y
-one-answer (check p) contents taps a b x y = one-follows kind.Policy _ _ _ (policies_are_one (contents p)) (λ judged. same-answer _) a b x y
-one-answer (plan p t) contents taps a b x y =
-    one-follows kind.Policy _ _ _ (policies_are_one (contents p)) (λ judged.
+one-answer (check latest p) contents taps a b x y = one-follows kind.Policy _ _ _ (policies_are_one latest (contents p)) (λ judged. same-answer _) a b x y
+one-answer (plan latest p t) contents taps a b x y =
+    one-follows kind.Policy _ _ _ (policies_are_one latest (contents p)) (λ judged.
     one-follows kind.Target _ _ _ (targets_are_one (contents t)) (λ target. one-planned judged.policy.policy target)) a b x y
-one-answer (direct p c e) contents taps a b x y =
-    one-follows kind.Policy _ _ _ (policies_are_one (contents p)) (λ judged.
+one-answer (direct latest p c e) contents taps a b x y =
+    one-follows kind.Policy _ _ _ (policies_are_one latest (contents p)) (λ judged.
     one-follows kind.Script _ _ _ (scripts_are_one (contents e)) (λ steps. same-answer _)) a b x y
 one-answer (soak load) contents taps a b x y = one-soaked load a b x y
-one-answer (via p g m t c e) contents taps a b x y =
-    one-follows kind.Policy _ _ _ (policies_are_one (contents p)) (λ judged.
+one-answer (via latest p g m t c e) contents taps a b x y =
+    one-follows kind.Policy _ _ _ (policies_are_one latest (contents p)) (λ judged.
     one-follows kind.Tree _ _ _ (topologies_are_one (contents g)) (λ middle.
     one-follows kind.Map _ _ _ (maps_are_one judged.policy.policy middle (contents m)) (λ tried.
     one-unbroken (names_of judged.policy.policy) tried.fault _ (

@@ -35,6 +35,7 @@ pub use Rattle.policy_rules.specs.Entries.{AreRising}
 pub use Rattle.policy_rules.specs.Resolved.{Resolved, IsResolved}
 pub use Rattle.policy_text_defs.specs.Ranges.{most_text}
 pub use Rattle.policy_text_defs.specs.Sense.{Sense, numbered}
+pub use Rattle.policy_text_defs.specs.declared.edition.Edition.{Edition}
 pub use Rattle.policy_text_defs.specs.Text.{HasEntries, Fault, not_text, shaping, syntax_fault}
 pub use Rattle.report_core.proofs.WholeTexts.{cut_end, cut_part, whole_end}
 pub use Rattle.report_core.specs.declared.fault.FaultKind.{FaultKind}

@@ -10,26 +10,26 @@ planned_alone policy target a (planned false text h) = refl
 
 -- nothing runs
 pub no_run : (form : Form) (contents : List ℕ → List ℕ) (taps : List Entry) → UsesNoFabric form → (a : Answer) → IsOutput form contents taps a → a.run ≡ None
-no_run (replay p t c pacing) contents taps none a is = absurd none
-no_run (check p) contents taps none a is = each-follows kind.Policy _ _ _ (λ b. b.run ≡ None) (λ code place h. refl) (λ judged b h e. ap (λ (x : Answer). x.run) e) a is
-no_run (plan p t) contents taps none a is =
+no_run (replay latest p t c pacing) contents taps none a is = absurd none
+no_run (check latest p) contents taps none a is = each-follows kind.Policy _ _ _ (λ b. b.run ≡ None) (λ code place h. refl) (λ judged b h e. ap (λ (x : Answer). x.run) e) a is
+no_run (plan latest p t) contents taps none a is =
     each-follows kind.Policy _ _ _ (λ b. b.run ≡ None) (λ code place h. refl) (λ judged b h k.
     each-follows kind.Target _ _ _ (λ d. d.run ≡ None) (λ code place l. refl) (λ target d l m. planned_alone judged.policy.policy target d m) b k) a is
-no_run (direct p c e) contents taps none a is =
+no_run (direct latest p c e) contents taps none a is =
     each-follows kind.Policy _ _ _ (λ b. b.run ≡ None) (λ code place h. refl) (λ judged b h k.
     each-follows kind.Script _ _ _ (λ d. d.run ≡ None) (λ code place l. refl) (λ steps d l m. ap (λ (x : Answer). x.run) m) b k) a is
 no_run (soak load) contents taps none a is = absurd none
-no_run (via p g m t c e) contents taps none a is = absurd none
+no_run (via latest p g m t c e) contents taps none a is = absurd none
 no_run no_form contents taps none a is = ap (λ (x : Answer). x.run) is
 
 -- taps are unchanged
 same_taps : (form : Form) (shown : Option (List Shown)) (taps : List Entry) → UsesNoFabric form → taps ≡ tap_list form shown taps
-same_taps (replay p t c pacing) shown taps none = absurd none
-same_taps (check p) shown taps none = refl
-same_taps (plan p t) shown taps none = refl
-same_taps (direct p c e) shown taps none = refl
+same_taps (replay latest p t c pacing) shown taps none = absurd none
+same_taps (check latest p) shown taps none = refl
+same_taps (plan latest p t) shown taps none = refl
+same_taps (direct latest p c e) shown taps none = refl
 same_taps (soak load) shown taps none = absurd none
-same_taps (via p g m t c e) shown taps none = absurd none
+same_taps (via latest p g m t c e) shown taps none = absurd none
 same_taps no_form shown taps none = refl
 
 pub unused : {F : Type 0} (fabrics : Ghosts F) (form : Form) (contents : List ℕ → List ℕ) (taps : List Entry) → UsesNoFabric form → (f : F) (r : Result Status Stop) → IsLeftOf fabrics form contents r f f taps taps

@@ -1,6 +1,6 @@
 -- The text written and the state left along a map that breaks no clause, and for a map that breaks
 -- one.
-use Rattle.replay_app.proofs.Prelude.{subst, sym, ℕ, List, ◌≡◌, refl, ◌∙◌, [], Option, Some, None, on_ok_weaker, Result, IfOk, OnOk, OnErr, Ghosts, MapFault, Appended, AppendedPrefix, Stop, FaultKind, none_named, Sight, Answer, IsTold, IsLeft, IsDone, HoldsRun, IsLeftOf, Follows, IsOutput, status_code, pair_text, Unbroken, map_refusal, via, Status}
+use Rattle.replay_app.proofs.Prelude.{subst, sym, ℕ, List, ◌≡◌, refl, ◌∙◌, [], Option, Some, None, on_ok_weaker, Result, IfOk, OnOk, OnErr, Ghosts, MapFault, Appended, AppendedPrefix, Stop, FaultKind, none_named, Sight, Answer, IsTold, IsLeft, IsDone, HoldsRun, IsLeftOf, Follows, IsOutput, status_code, pair_text, Unbroken, map_refusal, via, Status, Edition}
 use Rattle.mapcheck_core.specs.declared.fault.MapFault.TheVariants as fault
 use Rattle.tap_core.specs.Lists.{Entry}
 use Rattle.replay_app.proofs.FollowLaws.{AreOne, unchanged, always_ok, always_err, exactly_told, exactly_done, refused_left}
@@ -63,9 +63,9 @@ refused_holds kind refused accepted after are r fabrics f code place h =
     fabric_left fabrics _ r f f no_sight no_sight (refused_left kind refused accepted after are r fabrics f no_sight code place h)
 
 -- a run along a map leaves the taps unchanged
-pub via_left : {F : Type 0} (fabrics : Ghosts F) (p g m t c e : List ℕ) (contents : List ℕ → List ℕ) (taps : List Entry) (r : Result Status Stop) (old new : F)
-    → HoldsRun fabrics (IsOutput (via p g m t c e) contents taps) r old new → IsLeftOf fabrics (via p g m t c e) contents r old new taps taps
-via_left fabrics p g m t c e contents taps r old new holds = record {
+pub via_left : {F : Type 0} (fabrics : Ghosts F) (latest : Edition) (p g m t c e : List ℕ) (contents : List ℕ → List ℕ) (taps : List Entry) (r : Result Status Stop) (old new : F)
+    → HoldsRun fabrics (IsOutput (via latest p g m t c e) contents taps) r old new → IsLeftOf fabrics (via latest p g m t c e) contents r old new taps taps
+via_left fabrics latest p g m t c e contents taps r old new holds = record {
   whole = on_ok_weaker r (λ each a is. record { fabric = each a is; taps = refl }) holds.whole;
   part = holds.part;
 }

@@ -21,16 +21,16 @@ IsLeftBehind fabrics form contents taps = HoldsLeft fabrics (IsOutput form conte
 
 -- only `replay`, `link`, `forward`, `soak` and `via` use the fabric
 abbrev pub UsesNoFabric : Form → Type 0
-UsesNoFabric (replay p t c pacing) = ⊥
+UsesNoFabric (replay latest p t c pacing) = ⊥
 UsesNoFabric (soak load) = ⊥
-UsesNoFabric (via p g m t c e) = ⊥
+UsesNoFabric (via latest p g m t c e) = ⊥
 UsesNoFabric form = Unit {0}
 
 -- ---- taps
 -- After a run that a script paces, the taps of the named kinds that didn't answer Done are left, in
 -- order, each in its state after all that it was shown. In every other case all taps are unchanged.
 abbrev pub tap_list : Form → Option (List Shown) → List Entry → List Entry
-tap_list (replay p t c (script e named)) (Some shown) taps = left_after shown (named_entries named taps)
+tap_list (replay latest p t c (script e named)) (Some shown) taps = left_after shown (named_entries named taps)
 tap_list form shown taps = taps
 
 -- if nothing stopped the program, the taps are those that every output leaves
@@ -42,7 +42,7 @@ AreTapsLeft form contents status old new = AreLeft (IsOutput form contents old) 
 
 -- only a run that a script paces shows anything to taps
 abbrev pub UsesNoTaps : Form → Type 0
-UsesNoTaps (replay p t c (script e named)) = ⊥
+UsesNoTaps (replay latest p t c (script e named)) = ⊥
 UsesNoTaps form = Unit {0}
 
 -- the fabric and the taps if nothing stopped the program

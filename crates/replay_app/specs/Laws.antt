@@ -3,6 +3,7 @@ use Rattle.std.specs.Prelude.{◌≡◌, ℕ, List, [], ◌++◌}
 use Rattle.tree_defs.specs.Topology.{topology_of, complete}
 use Rattle.target_core.specs.declared.target.Target.{Target}
 use Rattle.embed_defs.specs.Embedding.{HasEmbedding}
+use Rattle.policy_text_defs.specs.declared.edition.Edition.{Edition}
 use Rattle.tap_core.specs.Lists.{Entry}
 use Rattle.tap_core.specs.Names.{none_named}
 use Rattle.tap_core.specs.declared.watch.Named.{Named}
@@ -31,6 +32,6 @@ pub record ReportsTheSame (named : Named) (through direct : Answer) : Type 0 whe
 -- if some map embeds the policy's tree into the target, `replay` reports what `direct` reports for
 -- the same policy, capture and script
 abbrev pub ReplayReportsWhatDirectReports : Type 0
-ReplayReportsWhatDirectReports = (p t c e : List ℕ) (named : Named) (contents : List ℕ → List ℕ) (taps : List Entry) (judged : Judged) (target : Target)
-    → IsPolicy (contents p) judged → IsTargetOf (contents t) target → HasEmbedding (topology_of judged.policy.policy.tree) (complete target.arities)
-    → (a b : Answer) → IsOutput (replay p t c (script e named)) contents taps a → IsOutput (direct p c e) contents taps b → ReportsTheSame named a b
+ReplayReportsWhatDirectReports = (latest : Edition) (p t c e : List ℕ) (named : Named) (contents : List ℕ → List ℕ) (taps : List Entry) (judged : Judged) (target : Target)
+    → IsPolicy latest (contents p) judged → IsTargetOf (contents t) target → HasEmbedding (topology_of judged.policy.policy.tree) (complete target.arities)
+    → (a b : Answer) → IsOutput (replay latest p t c (script e named)) contents taps a → IsOutput (direct latest p c e) contents taps b → ReportsTheSame named a b

@@ -10,8 +10,10 @@ pub mod Via
 pub mod Output
 pub mod Stages
 pub mod Behind
+pub mod Ends
 pub mod Stops
 pub mod Causes
 pub mod Named
 pub mod Laws
 pub mod Rows
+pub mod EditionRows

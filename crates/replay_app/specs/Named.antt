@@ -20,20 +20,20 @@ pacing_form (code_pacing.Link rate) = link rate
 pacing_form (code_pacing.Forward rate) = forward rate
 
 abbrev pub replay_form : ReplayFiles → Form
-replay_form f = replay f.policy.now f.target.now f.capture.now (pacing_form f.pacing)
+replay_form f = replay f.latest f.policy.now f.target.now f.capture.now (pacing_form f.pacing)
 
 abbrev pub plan_form : PlanFiles → Form
-plan_form f = plan f.policy.now f.target.now
+plan_form f = plan f.latest f.policy.now f.target.now
 
 abbrev pub direct_form : DirectFiles → Form
-direct_form f = direct f.policy.now f.capture.now f.script.now
+direct_form f = direct f.latest f.policy.now f.capture.now f.script.now
 
 abbrev pub via_form : ViaFiles → Form
-via_form f = via f.policy.now f.topology.now f.map.now f.target.now f.capture.now f.script.now
+via_form f = via f.latest f.policy.now f.topology.now f.map.now f.target.now f.capture.now f.script.now
 
 abbrev pub command_form : Command → Form
 command_form (Replay f) = replay_form f
-command_form (Check p) = check p.now
+command_form (Check latest p) = check latest p.now
 command_form (Plan f) = plan_form f
 command_form (Direct f) = direct_form f
 command_form (Soak load) = soak load

@@ -59,23 +59,23 @@ IsPaced watching policy laid (forward rate) capture contents = λ b. b ≡ forwa
 -- the run, and the capture, which is part of the run. For a given map, the topology and the map
 -- follow the policy, and the target needs room for the topology. A generated load has no input.
 abbrev pub IsOutput : Form → (List ℕ → List ℕ) → List Entry → Answer → Type 0
-IsOutput (replay p t c pacing) contents taps a =
-    UnderPolicy (contents p) (λ judged.
+IsOutput (replay latest p t c pacing) contents taps a =
+    UnderPolicy latest (contents p) (λ judged.
     ForTarget (contents t) (λ target.
     WithRoom (topology_of judged.policy.policy.tree) target (λ laid.
     IsPaced (watchers pacing taps) judged.policy laid pacing (contents c) contents))) a
-IsOutput (direct p c e) contents taps a =
-    UnderPolicy (contents p) (λ judged.
+IsOutput (direct latest p c e) contents taps a =
+    UnderPolicy latest (contents p) (λ judged.
     AlongScript (contents e) (λ steps b.
     b ≡ direct_run judged.policy (script_pace steps) (contents c))) a
-IsOutput (plan p t) contents taps a =
-    UnderPolicy (contents p) (λ judged.
+IsOutput (plan latest p t) contents taps a =
+    UnderPolicy latest (contents p) (λ judged.
     ForTarget (contents t) (λ target.
     IsPlanned judged.policy.policy target)) a
-IsOutput (check p) contents taps a = UnderPolicy (contents p) (λ judged b. b ≡ checked judged) a
+IsOutput (check latest p) contents taps a = UnderPolicy latest (contents p) (λ judged b. b ≡ checked judged) a
 IsOutput (soak load) contents taps a = IsSoaked load a
-IsOutput (via p g m t c e) contents taps a =
-    UnderPolicy (contents p) (λ judged.
+IsOutput (via latest p g m t c e) contents taps a =
+    UnderPolicy latest (contents p) (λ judged.
     ForTopology (contents g) (λ middle.
     ForMap judged.policy.policy middle (contents m) (λ given.
     ForTarget (contents t) (λ target.

@@ -3,6 +3,7 @@ use Rattle.std.specs.Prelude.{◌≢◌, ℕ, List, map}
 use Rattle.report_core.specs.declared.fault.FaultKind.TheVariants.{Policy}
 use Rattle.policy_text_defs.specs.Canonical.{canonical_text}
 use Rattle.policy_text_defs.specs.Sense.{Sense, Entry}
+use Rattle.policy_text_defs.specs.declared.edition.Edition.{Edition}
 use Rattle.policy_text_defs.specs.Text.{HasEntries}
 use Rattle.policy_text.specs.declared.lines.Lines.{Lines}
 use Rattle.policy_text.specs.declared.fault.TextFault.{TextFault}
@@ -27,16 +28,16 @@ senses_of es = map (λ e. e.1) es
 abbrev pub entries_in : Lines → List Entry
 entries_in lines = map entry_of lines.held
 
--- the code and line number with which a text is rejected: it is too long, or its first line in
--- error decides
-pub data IsTextRefused (text : List ℕ) : ℕ → ℕ → Type 0 where
-  at_fault : (f : TextFault) → IsCause text f → IsTextRefused text (text_code f) (text_line f)
+-- the code and line number with which a reader of the editions up to `latest` rejects a text: it is
+-- too long, or its first line in error decides
+pub data IsTextRefused (latest : Edition) (text : List ℕ) : ℕ → ℕ → Type 0 where
+  at_fault : (f : TextFault) → IsCause latest text f → IsTextRefused latest text (text_code f) (text_line f)
 
 -- the code and line number with which a policy is rejected: those of its text, or those of the
 -- first clause that its statements break
-pub data IsPolicyRefused (text : List ℕ) : ℕ → ℕ → Type 0 where
-  text_refused : (code line : ℕ) → IsTextRefused text code line → IsPolicyRefused text code line
-  statements_refused : (es : List Entry) (f : PolicyFault) → HasEntries text es → f ≢ NoMemory → IsFault es f → IsPolicyRefused text (code_of f) (line_of f)
+pub data IsPolicyRefused (latest : Edition) (text : List ℕ) : ℕ → ℕ → Type 0 where
+  text_refused : (code line : ℕ) → IsTextRefused latest text code line → IsPolicyRefused latest text code line
+  statements_refused : (es : List Entry) (f : PolicyFault) → HasEntries latest text es → f ≢ NoMemory → IsFault es f → IsPolicyRefused latest text (code_of f) (line_of f)
 
 -- statements, and the policy that they give
 pub record Judged : Type 0 where
@@ -46,23 +47,24 @@ pub record Judged : Type 0 where
 abbrev pub judged_of : code.Judged → Judged
 judged_of j = record { entries = entries_in j.lines; policy = j.policy }
 
--- the text has these statements, they are accepted, and they give this policy
-pub record IsPolicy (text : List ℕ) (j : Judged) : Type 0 where
-  pub has : HasEntries text j.entries
+-- for a reader of the editions up to `latest`, the text has these statements, they are accepted, and
+-- they give this policy
+pub record IsPolicy (latest : Edition) (text : List ℕ) (j : Judged) : Type 0 where
+  pub has : HasEntries latest text j.entries
   pub accepted : AreAccepted j.entries
   pub gives : IsResolved j.entries j.policy
 
 -- outputs that depend on the text of a policy
-abbrev pub UnderPolicy : List ℕ → (Judged → Answer → Type 0) → Answer → Type 0
-UnderPolicy text after = Follows Policy (IsPolicyRefused text) (IsPolicy text) after
+abbrev pub UnderPolicy : Edition → List ℕ → (Judged → Answer → Type 0) → Answer → Type 0
+UnderPolicy latest text after = Follows Policy (IsPolicyRefused latest text) (IsPolicy latest text) after
 
 -- the output of `check`: the canonical text of a policy
 abbrev pub checked : Judged → Answer
 checked j = text_alone 0 (canonical_text (senses_of j.entries))
 
 -- ---- results of reading
-abbrev pub IsTextRead : List ℕ → Read Lines → Type 0
-IsTextRead text read = IsRead (IsTextRefused text) (λ lines. HasEntries text (entries_in lines)) read
+abbrev pub IsTextRead : Edition → List ℕ → Read Lines → Type 0
+IsTextRead latest text read = IsRead (IsTextRefused latest text) (λ lines. HasEntries latest text (entries_in lines)) read
 
-abbrev pub IsPolicyRead : List ℕ → Read code.Judged → Type 0
-IsPolicyRead text read = IsRead (IsPolicyRefused text) (λ j. IsPolicy text (judged_of j)) read
+abbrev pub IsPolicyRead : Edition → List ℕ → Read code.Judged → Type 0
+IsPolicyRead latest text read = IsRead (IsPolicyRefused latest text) (λ j. IsPolicy latest text (judged_of j)) read

@@ -13,6 +13,7 @@ use Rattle.packet_defs.specs.declared.packet.Packet.{Packet}
 use Rattle.policy_defs.specs.Policy.{one_leaf}
 use Rattle.policy_rules.specs.Resolved.{Resolved}
 use Rattle.policy_text_defs.specs.Sense as sense
+use Rattle.policy_text_defs.specs.declared.edition.Edition.TheVariants.{Classic}
 use Rattle.embed_defs.specs.Embedding.{IsEmbedding}
 use Rattle.embed_defs.specs.Images.{image_map}
 use Rattle.target_core.specs.Rows.{no_height, IsTargetText-no_height}
@@ -31,7 +32,7 @@ use Rattle.sched_embedded.specs.Laid.{Laid}
 use Rattle.tap_core.specs.Lists.{Entry, departed}
 use Rattle.tap_core.specs.declared.kinds.TapKind.TheVariants.{Bytes, First, Drops}
 use Rattle.tap_core.specs.declared.watch.Named.{Named}
-use Rattle.replay_app.specs.Answer.{Answer, text_alone}
+use Rattle.replay_app.specs.Answer.{text_alone}
 use Rattle.replay_app.specs.Behind.{tap_list}
 use Rattle.replay_app.specs.Follows.{goes_on}
 use Rattle.replay_app.specs.Output.{direct_run, laid_run, forward_run, watchers, IsOutput}
@@ -208,8 +209,8 @@ leaf_in_leaf image root = record {
 }
 
 -- the inputs are read in order, and the report is that of `replay`; no tap watches
-via_one_leaf : (entries : List sense.Entry) → IsPolicy policy_text (record { entries = entries; policy = fifo })
-    → IsOutput (via (codes "p") (codes "g") (codes "m") (codes "t") (codes "c") (codes "e")) via_files taps (record {
+via_one_leaf : (entries : List sense.Entry) → IsPolicy Classic policy_text (record { entries = entries; policy = fifo })
+    → IsOutput (via Classic (codes "p") (codes "g") (codes "m") (codes "t") (codes "c") (codes "e")) via_files taps (record {
       status = 0;
       text = codes "a 1 1 root 0\nd 2 1 root 0\nend pushed 1 popped 1 empty 0 held 0 unsent 0\n";
       run = Some (record { policy = one_leaf; laid = alone; events = Arrive the_packet ∷ Depart None ∷ [] });
@@ -242,14 +243,14 @@ no_tap_watches_a_link : watchers (link 60) three_taps ≡ []
 no_tap_watches_a_link = refl
 
 -- of the taps that watched, those that aren't done are left
-taps_left_by_a_script : tap_list (replay (codes "p") (codes "t") (codes "c") (script (codes "e") first_and_drops))
+taps_left_by_a_script : tap_list (replay Classic (codes "p") (codes "t") (codes "c") (script (codes "e") first_and_drops))
     (Some (departed (record { packet = 1; class = 0; leaf = 0; len = 60 }) ∷ [])) three_taps ≡ (Drops, 0 ∷ 0 ∷ []) ∷ []
 taps_left_by_a_script = refl
 
 -- if no run begins, or if a link paces it, all taps are left
-taps_left_without_a_run : tap_list (replay (codes "p") (codes "t") (codes "c") (script (codes "e") first_and_drops)) None three_taps ≡ three_taps
+taps_left_without_a_run : tap_list (replay Classic (codes "p") (codes "t") (codes "c") (script (codes "e") first_and_drops)) None three_taps ≡ three_taps
 taps_left_without_a_run = refl
 
-taps_left_by_a_link : tap_list (replay (codes "p") (codes "t") (codes "c") (link 60))
+taps_left_by_a_link : tap_list (replay Classic (codes "p") (codes "t") (codes "c") (link 60))
     (Some (departed (record { packet = 1; class = 0; leaf = 0; len = 60 }) ∷ [])) three_taps ≡ three_taps
 taps_left_by_a_link = refl

@@ -2,6 +2,7 @@
 use Rattle.std.specs.Prelude.{◌≡◌, ℕ, List, []}
 use Rattle.tree_defs.specs.Topology.{Topology, topology_of}
 use Rattle.policy_rules.specs.Resolved.{Resolved}
+use Rattle.policy_text_defs.specs.declared.edition.Edition.{Edition}
 use Rattle.target_core.specs.declared.target.Target.{Target}
 use Rattle.sched_embedded.specs.Laid.{Laid}
 use Rattle.replay_app.specs.Answer.{Answer}
@@ -44,9 +45,9 @@ BehindTargetText watching policy target pacing capture contents =
     ForTarget (contents target) (λ read. BehindTarget watching policy read pacing capture contents)
 
 -- after the arguments, for a run through a fabric
-abbrev pub BehindWords : List Entry → List ℕ → List ℕ → Pacing → List ℕ → (List ℕ → List ℕ) → Answer → Type 0
-BehindWords watching policy target pacing capture contents =
-    UnderPolicy (contents policy) (λ judged. BehindTargetText watching judged.policy target pacing capture contents)
+abbrev pub BehindWords : List Entry → Edition → List ℕ → List ℕ → Pacing → List ℕ → (List ℕ → List ℕ) → Answer → Type 0
+BehindWords watching latest policy target pacing capture contents =
+    UnderPolicy latest (contents policy) (λ judged. BehindTargetText watching judged.policy target pacing capture contents)
 
 -- ---- along a given map
 -- after the target: the topology needs room, and the policy's tree is placed along the map

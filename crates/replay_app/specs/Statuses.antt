@@ -6,6 +6,7 @@ use Rattle.sched_defs.specs.declared.ending.Ending as run
 use Rattle.sched_defs.specs.declared.ending.Ending.TheVariants as run_ending
 use Rattle.sched_capture.specs.declared.departures.ForwardEnding.{ForwardEnding}
 use Rattle.sched_capture.specs.declared.departures.ForwardEnding.TheVariants as forward_ending
+use Rattle.policy_text_defs.specs.declared.edition.Edition.TheVariants.{Classic}
 use Rattle.sched_run.specs.declared.pace.Pace.{Pace}
 use Rattle.sched_run.specs.declared.pace.Pace.TheVariants as pace
 use Rattle.replay_app.specs.Words.{Pacing, script, link, forward, Form, replay, check, plan, direct, soak, via, no_form}
@@ -79,12 +80,12 @@ pace_statuses (pace.Link rate) = link_statuses
 
 -- the possible statuses for a form, if nothing stops the program
 abbrev pub statuses_of : Form → List ℕ
-statuses_of (replay p t c pacing) = 3 ∷ 4 ∷ 5 ∷ paced_statuses pacing
-statuses_of (check p) = 3 ∷ 0 ∷ []
-statuses_of (plan p t) = 3 ∷ 4 ∷ 5 ∷ 0 ∷ []
-statuses_of (direct p c e) = 3 ∷ run_statuses
+statuses_of (replay latest p t c pacing) = 3 ∷ 4 ∷ 5 ∷ paced_statuses pacing
+statuses_of (check latest p) = 3 ∷ 0 ∷ []
+statuses_of (plan latest p t) = 3 ∷ 4 ∷ 5 ∷ 0 ∷ []
+statuses_of (direct latest p c e) = 3 ∷ run_statuses
 statuses_of (soak load) = 0 ∷ []
-statuses_of (via p g m t c e) = 3 ∷ 12 ∷ 13 ∷ 4 ∷ 5 ∷ run_statuses
+statuses_of (via latest p g m t c e) = 3 ∷ 12 ∷ 13 ∷ 4 ∷ 5 ∷ run_statuses
 statuses_of no_form = 2 ∷ []
 
 -- reading failed, writing failed, or memory ran out
@@ -111,9 +112,9 @@ statuses_of_forwards : map (λ e. status_code (forward_status e)) (forward_endin
 statuses_of_forwards = refl
 
 -- a link reads no script, so it never ends with 6
-statuses_of_a_link : statuses_of (replay (codes "p") (codes "t") (codes "c") (link 60)) ≡ 3 ∷ 4 ∷ 5 ∷ 7 ∷ 0 ∷ []
+statuses_of_a_link : statuses_of (replay Classic (codes "p") (codes "t") (codes "c") (link 60)) ≡ 3 ∷ 4 ∷ 5 ∷ 7 ∷ 0 ∷ []
 statuses_of_a_link = refl
 
 -- a plan reads no capture, and a target without room is an error
-statuses_of_a_plan : statuses_of (plan (codes "p") (codes "t")) ≡ 3 ∷ 4 ∷ 5 ∷ 0 ∷ []
+statuses_of_a_plan : statuses_of (plan Classic (codes "p") (codes "t")) ≡ 3 ∷ 4 ∷ 5 ∷ 0 ∷ []
 statuses_of_a_plan = refl

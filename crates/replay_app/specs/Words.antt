@@ -7,6 +7,8 @@ use Rattle.std.specs.declared.alloc.Global.{Global}
 use Rattle.sched_defs.specs.SendTime.{most_rate}
 use Rattle.text_core.specs.Decimals.{number_of}
 use Rattle.rank_defs.specs.Programs.{max_rank}
+use Rattle.policy_text_defs.specs.declared.edition.Edition.{Edition}
+use Rattle.policy_text_defs.specs.declared.edition.Edition.TheVariants.{Classic, Third}
 use Rattle.sched_run.specs.Drawings.{most_load}
 use Rattle.sched_capture.specs.declared.load.LoadSize.{LoadSize}
 use Rattle.tap_core.specs.Names.{none_named, named_with}
@@ -23,20 +25,20 @@ pub data Pacing : Type 0 where
   link : ℕ → Pacing
   forward : ℕ → Pacing
 
--- a command with its file names
+-- a command with its file names; a policy is read up to an edition of the language
 pub data Form : Type 0 where
   -- a policy, a target, a capture, and what paces the run
-  replay : List ℕ → List ℕ → List ℕ → Pacing → Form
+  replay : Edition → List ℕ → List ℕ → List ℕ → Pacing → Form
   -- a policy
-  check : List ℕ → Form
+  check : Edition → List ℕ → Form
   -- a policy and a target
-  plan : List ℕ → List ℕ → Form
+  plan : Edition → List ℕ → List ℕ → Form
   -- a policy, a capture and a script
-  direct : List ℕ → List ℕ → List ℕ → Form
+  direct : Edition → List ℕ → List ℕ → List ℕ → Form
   -- a generated load
   soak : LoadSize → Form
   -- a policy, a topology, a map of the policy's tree into it, a target, a capture and a script
-  via : List ℕ → List ℕ → List ℕ → List ℕ → List ℕ → List ℕ → Form
+  via : Edition → List ℕ → List ℕ → List ℕ → List ℕ → List ℕ → List ℕ → Form
   no_form : Form
 
 -- the rate that an argument gives, in bytes per second
@@ -53,9 +55,9 @@ load_of seed count =
     option_and_then (λ s. option_map (λ n. record { seed = s; count = n }) (number_within most_load count)) (number_within max_rank seed)
 
 -- the form of three arguments
-abbrev pub three_words : List ℕ → List ℕ → List ℕ → Form
-three_words w second third =
-    if bytes_eq w (codes "plan") then plan second third
+abbrev pub three_words : Edition → List ℕ → List ℕ → List ℕ → Form
+three_words latest w second third =
+    if bytes_eq w (codes "plan") then plan latest second third
     else (if bytes_eq w (codes "soak") then option_map_or soak (load_of second third) no_form else no_form)
 
 -- these kinds of taps and those that the arguments name in pairs; each kind may be named only once
@@ -78,18 +80,19 @@ pacing_by w fifth more =
 
 -- a run along a given map: the names of a policy, a topology, a map and a target, followed by
 -- exactly two more
-abbrev pub via_by : List ℕ → List ℕ → List ℕ → List ℕ → List (List ℕ) → Form
-via_by p g m t (c ∷ e ∷ []) = via p g m t c e
-via_by p g m t more = no_form
+abbrev pub via_by : Edition → List ℕ → List ℕ → List ℕ → List ℕ → List (List ℕ) → Form
+via_by latest p g m t (c ∷ e ∷ []) = via latest p g m t c e
+via_by latest p g m t more = no_form
 
-abbrev pub form_of : List (List ℕ) → Form
-form_of (w ∷ p ∷ []) = if bytes_eq w (codes "check") then check p else no_form
-form_of (w ∷ second ∷ third ∷ []) = three_words w second third
-form_of (w ∷ p ∷ c ∷ e ∷ []) = if bytes_eq w (codes "direct") then direct p c e else no_form
-form_of (w ∷ p ∷ second ∷ third ∷ fourth ∷ more) =
-    if bytes_eq w (codes "via") then via_by p second third fourth more
-    else option_map_or (replay p second third) (pacing_by w fourth more) no_form
-form_of words = no_form
+-- the form of arguments whose policy is read up to an edition
+abbrev pub form_of : Edition → List (List ℕ) → Form
+form_of latest (w ∷ p ∷ []) = if bytes_eq w (codes "check") then check latest p else no_form
+form_of latest (w ∷ second ∷ third ∷ []) = three_words latest w second third
+form_of latest (w ∷ p ∷ c ∷ e ∷ []) = if bytes_eq w (codes "direct") then direct latest p c e else no_form
+form_of latest (w ∷ p ∷ second ∷ third ∷ fourth ∷ more) =
+    if bytes_eq w (codes "via") then via_by latest p second third fourth more
+    else option_map_or (replay latest p second third) (pacing_by w fourth more) no_form
+form_of latest words = no_form
 
 -- the name of the script, if there is one
 abbrev pub pacing_words : Pacing → List (List ℕ)
@@ -99,12 +102,12 @@ pacing_words (forward rate) = []
 
 -- the arguments that name files
 abbrev pub file_words : Form → List (List ℕ)
-file_words (replay p t c pacing) = p ∷ t ∷ c ∷ pacing_words pacing
-file_words (check p) = p ∷ []
-file_words (plan p t) = p ∷ t ∷ []
-file_words (direct p c e) = p ∷ c ∷ e ∷ []
+file_words (replay latest p t c pacing) = p ∷ t ∷ c ∷ pacing_words pacing
+file_words (check latest p) = p ∷ []
+file_words (plan latest p t) = p ∷ t ∷ []
+file_words (direct latest p c e) = p ∷ c ∷ e ∷ []
 file_words (soak load) = []
-file_words (via p g m t c e) = p ∷ g ∷ m ∷ t ∷ c ∷ e ∷ []
+file_words (via latest p g m t c e) = p ∷ g ∷ m ∷ t ∷ c ∷ e ∷ []
 file_words no_form = []
 
 -- each of the named files may be opened
@@ -119,73 +122,81 @@ AreTold content contents names = AllByRecursion (λ name. content name ≡ Some 
 abbrev pub WhereTold : (List ℕ → Option (List ℕ)) → List (List ℕ) → ((List ℕ → List ℕ) → Type 0) → Type 0
 WhereTold content names P = (contents : List ℕ → List ℕ) → AreTold content contents names → P contents
 
--- the form of the arguments
-abbrev pub form_in : List (String Global) → Form
-form_in words = form_of (texts words)
+-- the form of the arguments, for a reader of the editions up to `latest`
+abbrev pub form_up_to : Edition → List (String Global) → Form
+form_up_to latest words = form_of latest (texts words)
 
-pub form_of-replay : form_of (codes "replay" ∷ codes "p" ∷ codes "t" ∷ codes "c" ∷ codes "e" ∷ []) ≡ replay (codes "p") (codes "t") (codes "c") (script (codes "e") none_named)
+-- the form of the arguments, for a reader of versions 1 and 2
+abbrev pub form_in : List (String Global) → Form
+form_in words = form_up_to Classic words
+
+pub form_of-replay : form_of Classic (codes "replay" ∷ codes "p" ∷ codes "t" ∷ codes "c" ∷ codes "e" ∷ []) ≡ replay Classic (codes "p") (codes "t") (codes "c") (script (codes "e") none_named)
 form_of-replay = refl
 
-pub form_of-replay_with_taps : form_of (codes "replay" ∷ codes "p" ∷ codes "t" ∷ codes "c" ∷ codes "e" ∷ codes "tap" ∷ codes "first" ∷ codes "tap" ∷ codes "bytes" ∷ [])
-    ≡ replay (codes "p") (codes "t") (codes "c") (script (codes "e") (record { bytes = true; order = false; first = true; drops = false }))
+pub form_of-replay_with_taps : form_of Classic (codes "replay" ∷ codes "p" ∷ codes "t" ∷ codes "c" ∷ codes "e" ∷ codes "tap" ∷ codes "first" ∷ codes "tap" ∷ codes "bytes" ∷ [])
+    ≡ replay Classic (codes "p") (codes "t") (codes "c") (script (codes "e") (record { bytes = true; order = false; first = true; drops = false }))
 form_of-replay_with_taps = refl
 
-pub form_of-replay_with_a_tap_twice : form_of (codes "replay" ∷ codes "p" ∷ codes "t" ∷ codes "c" ∷ codes "e" ∷ codes "tap" ∷ codes "order" ∷ codes "tap" ∷ codes "order" ∷ []) ≡ no_form
+pub form_of-replay_with_a_tap_twice : form_of Classic (codes "replay" ∷ codes "p" ∷ codes "t" ∷ codes "c" ∷ codes "e" ∷ codes "tap" ∷ codes "order" ∷ codes "tap" ∷ codes "order" ∷ []) ≡ no_form
 form_of-replay_with_a_tap_twice = refl
 
-pub form_of-replay_with_half_a_pair : form_of (codes "replay" ∷ codes "p" ∷ codes "t" ∷ codes "c" ∷ codes "e" ∷ codes "tap" ∷ []) ≡ no_form
+pub form_of-replay_with_half_a_pair : form_of Classic (codes "replay" ∷ codes "p" ∷ codes "t" ∷ codes "c" ∷ codes "e" ∷ codes "tap" ∷ []) ≡ no_form
 form_of-replay_with_half_a_pair = refl
 
-pub form_of-link_with_a_tap : form_of (codes "link" ∷ codes "p" ∷ codes "t" ∷ codes "c" ∷ codes "10" ∷ codes "tap" ∷ codes "bytes" ∷ []) ≡ no_form
+pub form_of-link_with_a_tap : form_of Classic (codes "link" ∷ codes "p" ∷ codes "t" ∷ codes "c" ∷ codes "10" ∷ codes "tap" ∷ codes "bytes" ∷ []) ≡ no_form
 form_of-link_with_a_tap = refl
 
-pub form_of-link : form_of (codes "link" ∷ codes "p" ∷ codes "t" ∷ codes "c" ∷ codes "010" ∷ []) ≡ replay (codes "p") (codes "t") (codes "c") (link 10)
+pub form_of-link : form_of Classic (codes "link" ∷ codes "p" ∷ codes "t" ∷ codes "c" ∷ codes "010" ∷ []) ≡ replay Classic (codes "p") (codes "t") (codes "c") (link 10)
 form_of-link = refl
 
-pub form_of-link_too_slow : form_of (codes "link" ∷ codes "p" ∷ codes "t" ∷ codes "c" ∷ codes "0" ∷ []) ≡ no_form
+pub form_of-link_too_slow : form_of Classic (codes "link" ∷ codes "p" ∷ codes "t" ∷ codes "c" ∷ codes "0" ∷ []) ≡ no_form
 form_of-link_too_slow = refl
 
-pub form_of-link_fastest : form_of (codes "link" ∷ codes "p" ∷ codes "t" ∷ codes "c" ∷ codes "1000000000000" ∷ []) ≡ replay (codes "p") (codes "t") (codes "c") (link 1000000000000)
+pub form_of-link_fastest : form_of Classic (codes "link" ∷ codes "p" ∷ codes "t" ∷ codes "c" ∷ codes "1000000000000" ∷ []) ≡ replay Classic (codes "p") (codes "t") (codes "c") (link 1000000000000)
 form_of-link_fastest = refl
 
-pub form_of-link_too_fast : form_of (codes "link" ∷ codes "p" ∷ codes "t" ∷ codes "c" ∷ codes "1000000000001" ∷ []) ≡ no_form
+pub form_of-link_too_fast : form_of Classic (codes "link" ∷ codes "p" ∷ codes "t" ∷ codes "c" ∷ codes "1000000000001" ∷ []) ≡ no_form
 form_of-link_too_fast = refl
 
-pub form_of-forward : form_of (codes "forward" ∷ codes "p" ∷ codes "t" ∷ codes "c" ∷ codes "10" ∷ []) ≡ replay (codes "p") (codes "t") (codes "c") (forward 10)
+pub form_of-forward : form_of Classic (codes "forward" ∷ codes "p" ∷ codes "t" ∷ codes "c" ∷ codes "10" ∷ []) ≡ replay Classic (codes "p") (codes "t") (codes "c") (forward 10)
 form_of-forward = refl
 
-pub form_of-forward_with_a_tap : form_of (codes "forward" ∷ codes "p" ∷ codes "t" ∷ codes "c" ∷ codes "10" ∷ codes "tap" ∷ codes "bytes" ∷ []) ≡ no_form
+pub form_of-forward_with_a_tap : form_of Classic (codes "forward" ∷ codes "p" ∷ codes "t" ∷ codes "c" ∷ codes "10" ∷ codes "tap" ∷ codes "bytes" ∷ []) ≡ no_form
 form_of-forward_with_a_tap = refl
 
-pub form_of-replay_alone : form_of (codes "replay" ∷ []) ≡ no_form
+pub form_of-replay_alone : form_of Classic (codes "replay" ∷ []) ≡ no_form
 form_of-replay_alone = refl
 
-pub form_of-check : form_of (codes "check" ∷ codes "p" ∷ []) ≡ check (codes "p")
+pub form_of-check : form_of Classic (codes "check" ∷ codes "p" ∷ []) ≡ check Classic (codes "p")
 form_of-check = refl
 
-pub form_of-plan : form_of (codes "plan" ∷ codes "p" ∷ codes "t" ∷ []) ≡ plan (codes "p") (codes "t")
+pub form_of-plan : form_of Classic (codes "plan" ∷ codes "p" ∷ codes "t" ∷ []) ≡ plan Classic (codes "p") (codes "t")
 form_of-plan = refl
 
-pub form_of-direct : form_of (codes "direct" ∷ codes "p" ∷ codes "c" ∷ codes "e" ∷ []) ≡ direct (codes "p") (codes "c") (codes "e")
+pub form_of-direct : form_of Classic (codes "direct" ∷ codes "p" ∷ codes "c" ∷ codes "e" ∷ []) ≡ direct Classic (codes "p") (codes "c") (codes "e")
 form_of-direct = refl
 
-pub form_of-soak : form_of (codes "soak" ∷ codes "7" ∷ codes "0200" ∷ []) ≡ soak (record { seed = 7; count = 200 })
+pub form_of-soak : form_of Classic (codes "soak" ∷ codes "7" ∷ codes "0200" ∷ []) ≡ soak (record { seed = 7; count = 200 })
 form_of-soak = refl
 
-pub form_of-soak_most : form_of (codes "soak" ∷ codes "4611686018427387903" ∷ codes "1000000" ∷ []) ≡ soak (record { seed = 4611686018427387903; count = 1000000 })
+pub form_of-soak_most : form_of Classic (codes "soak" ∷ codes "4611686018427387903" ∷ codes "1000000" ∷ []) ≡ soak (record { seed = 4611686018427387903; count = 1000000 })
 form_of-soak_most = refl
 
-pub form_of-soak_too_great_a_seed : form_of (codes "soak" ∷ codes "4611686018427387904" ∷ codes "1" ∷ []) ≡ no_form
+pub form_of-soak_too_great_a_seed : form_of Classic (codes "soak" ∷ codes "4611686018427387904" ∷ codes "1" ∷ []) ≡ no_form
 form_of-soak_too_great_a_seed = refl
 
-pub form_of-soak_too_many : form_of (codes "soak" ∷ codes "1" ∷ codes "1000001" ∷ []) ≡ no_form
+pub form_of-soak_too_many : form_of Classic (codes "soak" ∷ codes "1" ∷ codes "1000001" ∷ []) ≡ no_form
 form_of-soak_too_many = refl
 
-pub form_of-via : form_of (codes "via" ∷ codes "p" ∷ codes "g" ∷ codes "m" ∷ codes "t" ∷ codes "c" ∷ codes "e" ∷ []) ≡ via (codes "p") (codes "g") (codes "m") (codes "t") (codes "c") (codes "e")
+pub form_of-via : form_of Classic (codes "via" ∷ codes "p" ∷ codes "g" ∷ codes "m" ∷ codes "t" ∷ codes "c" ∷ codes "e" ∷ []) ≡ via Classic (codes "p") (codes "g") (codes "m") (codes "t") (codes "c") (codes "e")
 form_of-via = refl
 
-pub form_of-via_without_a_script : form_of (codes "via" ∷ codes "p" ∷ codes "g" ∷ codes "m" ∷ codes "t" ∷ codes "c" ∷ []) ≡ no_form
+pub form_of-via_without_a_script : form_of Classic (codes "via" ∷ codes "p" ∷ codes "g" ∷ codes "m" ∷ codes "t" ∷ codes "c" ∷ []) ≡ no_form
 form_of-via_without_a_script = refl
 
-pub form_of-via_with_a_tap : form_of (codes "via" ∷ codes "p" ∷ codes "g" ∷ codes "m" ∷ codes "t" ∷ codes "c" ∷ codes "e" ∷ codes "tap" ∷ codes "bytes" ∷ []) ≡ no_form
+pub form_of-via_with_a_tap : form_of Classic (codes "via" ∷ codes "p" ∷ codes "g" ∷ codes "m" ∷ codes "t" ∷ codes "c" ∷ codes "e" ∷ codes "tap" ∷ codes "bytes" ∷ []) ≡ no_form
 form_of-via_with_a_tap = refl
+
+-- a reader of version 3 has the same forms, and reads its policies up to that version
+pub form_of-check_in_version_3 : form_of Third (codes "check" ∷ codes "p" ∷ []) ≡ check Third (codes "p")
+form_of-check_in_version_3 = refl

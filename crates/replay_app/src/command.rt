@@ -7,7 +7,8 @@ ghost use Rattle.replay_app.specs.Behind.{IsLeftBehind, IsLeftOf, AreTapsLeft, U
 ghost use Rattle.tap_core.specs.Lists.{entries};
 ghost use Rattle.replay_app.specs.Output.{Answers, IsOutput};
 ghost use Rattle.replay_app.specs.Statuses.{CanEnd, IsOneOf, IsRefusal, statuses_of, status_code};
-ghost use Rattle.replay_app.specs.Words.{AreLent, WhereTold, file_words, form_in, no_form};
+ghost use Rattle.replay_app.specs.Ends.{IsEndOf, KeepsTo};
+ghost use Rattle.replay_app.specs.Words.{AreLent, WhereTold, file_words, form_in, form_up_to, no_form};
 ghost use Rattle.sched_capture.specs.Placements.{CanCount};
 ghost use Rattle.replay_app.specs.Causes.{HasCauses};
 
@@ -24,6 +25,7 @@ use crate::words::{Command, command_of};
 use crate::writing::refuse;
 use fabric_core::Fabric;
 use outside_core::{Shelf, Sink, Stop};
+use policy_text::Edition;
 use report_core::FaultKind;
 use std::alloc::Global;
 use tap_core::Tap;
@@ -31,42 +33,46 @@ use tap_core::Tap;
 /// The arguments are malformed.
 pub const NO_FORM: Refusal = Refusal { code: 0, place: 0 };
 
-/// Parses the arguments and runs the command.
+/// Parses the arguments and runs the command, whose policy is read up to the edition `latest`.
 fn answer<S: Shelf, K: Sink, F: Fabric, T: Tap>(
     alloc: Global,
+    latest: Edition,
     words: &[String],
     shelf: &mut S,
     sink: &mut K,
     fabric: &mut F,
     taps: &mut Vec<T>,
 ) -> Result<Status, Stop>
-    requires lent { AreLent (S.lends shelf.old) (file_words (form_in words.now)) }
+    requires lent { AreLent (S.lends shelf.old) (file_words (form_up_to latest words.now)) }
     requires counts { CanCount F.Fabric fabric.old }
 
-    ensures answer { WhereTold (S.content shelf.old) (file_words (form_in words.now)) (λ contents.
-        IsTold (IsOutput (form_in words.now) contents (entries T.kind_of T.state_of taps.old.items)) result
+    ensures answer { WhereTold (S.content shelf.old) (file_words (form_up_to latest words.now))
+        (λ contents.
+        IsTold (IsOutput (form_up_to latest words.now) contents (entries T.kind_of T.state_of taps.old.items)) result
         (K.written sink.old) (K.written sink.new)) }
-    ensures left { WhereTold (S.content shelf.old) (file_words (form_in words.now)) (λ contents.
-        IsLeftOf F.Fabric (form_in words.now) contents result fabric.old fabric.new
+    ensures left { WhereTold (S.content shelf.old) (file_words (form_up_to latest words.now))
+        (λ contents.
+        IsLeftOf F.Fabric (form_up_to latest words.now) contents result fabric.old fabric.new
         (entries T.kind_of T.state_of taps.old.items) (entries T.kind_of T.state_of taps.new.items)) }
     ensures fewer { vec_len taps.new ≤ vec_len taps.old }
-    ensures statuses { IfOk result (λ s. IsOneOf (statuses_of (form_in words.now))
+    ensures statuses { IfOk result (λ s. IsOneOf (statuses_of (form_up_to latest words.now))
         (status_code s)) }
     ensures refused { IfOk result (λ s. IsRefusal (status_code s) →
         IsAsItWas F.Fabric fabric.old fabric.new) }
-    ensures untouched { UsesNoFabric (form_in words.now) → IsAsItWas F.Fabric fabric.old
+    ensures untouched { UsesNoFabric (form_up_to latest words.now) → IsAsItWas F.Fabric fabric.old
         fabric.new }
     ensures unwatched { IfOk result (λ s. IsRefusal (status_code s)
         → entries T.kind_of T.state_of taps.new.items ≡ entries T.kind_of T.state_of taps.old.items) }
-    ensures unshown { UsesNoTaps (form_in words.now)
+    ensures unshown { UsesNoTaps (form_up_to latest words.now)
         → entries T.kind_of T.state_of taps.new.items ≡ entries T.kind_of T.state_of taps.old.items }
-    ensures no_files { file_words (form_in words.now) ≡ [] → IsErrOf result Stop.Source → ⊥ }
+    ensures no_files { file_words (form_up_to latest words.now) ≡ [] → IsErrOf result Stop.Source
+        → ⊥ }
     ensures causes { HasCauses result (S.faults shelf.old) (S.faults shelf.new) (K.faults sink.old)
         (K.faults sink.new) }
 {
-    match command_of(words) {
+    match command_of(latest, words) {
         Some(Command::Replay(files)) => replay_watched(alloc, &files, shelf, sink, fabric, taps),
-        Some(Command::Check(policy)) => check_file(alloc, policy, shelf, sink),
+        Some(Command::Check(edition, policy)) => check_file(alloc, edition, policy, shelf, sink),
         Some(Command::Plan(files)) => plan_files(alloc, &files, shelf, sink),
         Some(Command::Direct(files)) => direct_files(alloc, &files, shelf, sink),
         Some(Command::Soak(load)) => soak_load(alloc, load, sink, fabric),
@@ -75,8 +81,46 @@ fn answer<S: Shelf, K: Sink, F: Fabric, T: Tap>(
     }
 }
 
-/// Runs the command that the arguments give, and returns the program's exit status. `words` holds
-/// the arguments after the program's name, in one of these forms:
+/// Runs the command that the arguments give, as `run` does, and returns the program's exit status.
+/// The policy is read up to the edition `latest`.
+pub fn run_to<S: Shelf, K: Sink, F: Fabric>(
+    alloc: Global,
+    latest: Edition,
+    words: &[String],
+    shelf: &mut S,
+    sink: &mut K,
+    fabric: &mut F,
+    taps: &mut Vec<Box<dyn Tap>>,
+) -> u8
+    requires lent { AreLent (S.lends shelf.old) (file_words (form_up_to latest words.now)) }
+    requires pushes { F.pushed fabric.old < 2 ^ 61 }
+    requires pops { F.popped fabric.old < 2 ^ 61 }
+
+    // If file contents are known to the contract: the output, the fabric and the taps.
+    ensures told { WhereTold (S.content shelf.old) (file_words (form_up_to latest words.now))
+        (λ contents.
+        IsEndOf F.Fabric (form_up_to latest words.now) contents result
+        (K.written sink.old) (K.written sink.new) fabric.old fabric.new
+        (entries kind_of state_of taps.old.items) (entries kind_of state_of taps.new.items)) }
+
+    // For any file contents: the guarantees that follow from the arguments alone.
+    ensures always { KeepsTo F.Fabric (form_up_to latest words.now) result fabric.old fabric.new
+        (entries kind_of state_of taps.old.items) (entries kind_of state_of taps.new.items) }
+    ensures fewer { vec_len taps.new ≤ vec_len taps.old }
+    ensures shelf_cause { result ≡ 8 → Rose (S.faults shelf.old) (S.faults shelf.new) }
+    ensures no_files { file_words (form_up_to latest words.now) ≡ [] → result ≢ 8 }
+    ensures sink_cause { result ≡ 9 → Rose (K.faults sink.old) (K.faults sink.new) }
+    ensures sink_later { K.faults sink.old ≤ K.faults sink.new }
+{
+    match answer(alloc, latest, words, shelf, sink, fabric, taps) {
+        Ok(status) => status.code(),
+        Err(stop) => stop_status(stop),
+    }
+}
+
+/// Runs the command that the arguments give, and returns the program's exit status. The policy is
+/// read as a text of version 1 or 2. `words` holds the arguments after the program's name, in one
+/// of these forms:
 ///
 /// - `replay POLICY TARGET CAPTURE SCRIPT`, followed by `tap NAME` for each kind of tap to watch
 /// - `link POLICY TARGET CAPTURE RATE` or `forward POLICY TARGET CAPTURE RATE`, with a rate in
@@ -134,8 +178,5 @@ pub fn run<S: Shelf, K: Sink, F: Fabric>(
     ensures sink_cause { result ≡ 9 → Rose (K.faults sink.old) (K.faults sink.new) }
     ensures sink_later { K.faults sink.old ≤ K.faults sink.new }
 {
-    match answer(alloc, words, shelf, sink, fabric, taps) {
-        Ok(status) => status.code(),
-        Err(stop) => stop_status(stop),
-    }
+    run_to(alloc, Edition::Classic, words, shelf, sink, fabric, taps)
 }

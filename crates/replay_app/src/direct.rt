@@ -90,7 +90,7 @@ pub fn direct_files<S: Shelf, K: Sink>(
     ensures causes { HasCauses result (S.faults shelf.old) (S.faults shelf.new) (K.faults sink.old)
         (K.faults sink.new) }
 {
-    match read_policy(alloc, shelf, files.policy)? {
+    match read_policy(alloc, files.latest, shelf, files.policy)? {
         Read::Accepted(judged) => direct_script(alloc, &judged.policy, files, shelf, sink),
         Read::Refused(refusal) => refuse(alloc, sink, FaultKind::Policy, refusal),
     }

@@ -26,7 +26,7 @@ mod watched;
 mod words;
 mod writing;
 
-pub use command::{NO_FORM, run};
+pub use command::{NO_FORM, run, run_to};
 pub use host::{Program, run_program};
 pub use laws::{replay_reports_what_direct_reports, words_have_an_answer, words_have_one_answer};
 pub use policies::{Judged, read_policy};

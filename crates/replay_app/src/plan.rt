@@ -83,7 +83,7 @@ pub fn plan_files<S: Shelf, K: Sink>(
     ensures causes { HasCauses result (S.faults shelf.old) (S.faults shelf.new) (K.faults sink.old)
         (K.faults sink.new) }
 {
-    match read_policy(alloc, shelf, files.policy)? {
+    match read_policy(alloc, files.latest, shelf, files.policy)? {
         Read::Accepted(judged) => plan_target(alloc, &judged.policy, files.target, shelf, sink),
         Read::Refused(refusal) => refuse(alloc, sink, FaultKind::Policy, refusal),
     }

@@ -4,13 +4,14 @@ ghost use Rattle.outside_core.specs.Faults.{Rose};
 ghost use Rattle.outside_core.specs.Kept.{KeepsShelf};
 ghost use Rattle.policy_text.specs.Codes.{code_of as text_code, line_of as text_line};
 ghost use Rattle.policy_rules.specs.Codes.{code_of, line_of};
+ghost use Rattle.policy_text_defs.specs.declared.edition.Edition.{Edition};
 ghost use Rattle.replay_app.specs.Policies.{IsTextRead, IsPolicyRead};
 
 use crate::load::load_short;
 use crate::refusal::{Read, Refusal};
 use outside_core::{Shelf, Stop};
 use policy_core::{Policy, PolicyFault, resolve};
-use policy_text::{Lines, MOST_TEXT, TextFault, parse};
+use policy_text::{Edition, Lines, MOST_TEXT, TextFault, parse_to};
 use std::alloc::{AllocError, Global};
 
 /// The statements of an accepted policy, and the policy that they give.
@@ -40,27 +41,32 @@ fn told_of(fault: TextFault) -> Result<Refusal, AllocError>
 }
 
 /// Parses the text of a policy, or returns why it is rejected. Fails if out of memory.
-fn lines_in(alloc: Global, text: &[u8]) -> Result<Read<Lines>, AllocError>
-    ensures { IfOk result (IsTextRead text.now) }
+fn lines_in(alloc: Global, latest: Edition, text: &[u8]) -> Result<Read<Lines>, AllocError>
+    ensures { IfOk result (IsTextRead latest text.now) }
 {
-    match parse(alloc, text) {
+    match parse_to(alloc, text, latest) {
         Ok(lines) => Ok(Read::Accepted(lines)),
         Err(fault) => Ok(Read::Refused(told_of(fault)?)),
     }
 }
 
 /// Reads the statements of a policy file. A file longer than `MOST_TEXT` bytes is rejected.
-fn read_lines<S: Shelf>(alloc: Global, shelf: &mut S, name: &str) -> Result<Read<Lines>, Stop>
+fn read_lines<S: Shelf>(
+    alloc: Global,
+    latest: Edition,
+    shelf: &mut S,
+    name: &str,
+) -> Result<Read<Lines>, Stop>
     requires lent { IsTrue (S.lends shelf.old name.now) }
 
     ensures read { IfOk result (λ read. IfSome (S.content shelf.old name.now) (λ text.
-        IsTextRead text read)) }
+        IsTextRead latest text read)) }
     ensures kept { KeepsShelf S.lends S.content S.faults shelf.old shelf.new }
     ensures cause { IsErrOf result Stop.Source → Rose (S.faults shelf.old) (S.faults shelf.new) }
     ensures writes_nothing { IsErrOf result Stop.Sink → ⊥ }
 {
     match load_short(alloc, shelf, name, MOST_TEXT)? {
-        Some(text) => Ok(lines_in(alloc, &text)?),
+        Some(text) => Ok(lines_in(alloc, latest, &text)?),
         None => Ok(Read::Refused(told_of(TextFault::TooLong)?)),
     }
 }
@@ -82,7 +88,8 @@ fn refusal_of(fault: PolicyFault) -> Result<Refusal, AllocError>
 
 /// Resolves statements to a policy, or returns why they are rejected. Fails if out of memory.
 fn judge(alloc: Global, read: Read<Lines>) -> Result<Read<Judged>, AllocError>
-    ensures { (text : List ℕ) → IsTextRead text read → IfOk result (IsPolicyRead text) }
+    ensures { (latest : Edition) (text : List ℕ) → IsTextRead latest text read
+        → IfOk result (IsPolicyRead latest text) }
 {
     match read {
         Read::Accepted(lines) => match resolve(alloc, &lines) {
@@ -93,16 +100,21 @@ fn judge(alloc: Global, read: Read<Lines>) -> Result<Read<Judged>, AllocError>
     }
 }
 
-/// Reads a policy file, and decides whether the policy is accepted.
-pub fn read_policy<S: Shelf>(alloc: Global, shelf: &mut S, name: &str) -> Result<Read<Judged>, Stop>
+/// Reads a policy file up to the edition `latest`, and decides whether the policy is accepted.
+pub fn read_policy<S: Shelf>(
+    alloc: Global,
+    latest: Edition,
+    shelf: &mut S,
+    name: &str,
+) -> Result<Read<Judged>, Stop>
     requires lent { IsTrue (S.lends shelf.old name.now) }
 
     ensures read { IfOk result (λ read. IfSome (S.content shelf.old name.now) (λ text.
-        IsPolicyRead text read)) }
+        IsPolicyRead latest text read)) }
     ensures kept { KeepsShelf S.lends S.content S.faults shelf.old shelf.new }
     ensures cause { IsErrOf result Stop.Source → Rose (S.faults shelf.old) (S.faults shelf.new) }
     ensures writes_nothing { IsErrOf result Stop.Sink → ⊥ }
 {
-    let read = read_lines(alloc, shelf, name)?;
+    let read = read_lines(alloc, latest, shelf, name)?;
     Ok(judge(alloc, read)?)
 }

@@ -314,11 +314,11 @@ pub fn replay_files<S: Shelf, K: Sink, F: Fabric, T: Tap>(
     ensures answer { WhereTold (S.content shelf.old) (file_words (replay_form files.now))
         (λ contents.
         IsTold (BehindWords (watching_in (sight_of T.kind_of T.state_of watch.old))
-        files.now.policy.now files.now.target.now (pacing_form files.now.pacing) files.now.capture.now contents)
+        files.now.latest files.now.policy.now files.now.target.now (pacing_form files.now.pacing) files.now.capture.now contents)
         result (K.written sink.old) (K.written sink.new)) }
     ensures left { WhereTold (S.content shelf.old) (file_words (replay_form files.now)) (λ contents.
         IsLeft F.Fabric (BehindWords (watching_in (sight_of T.kind_of T.state_of watch.old))
-        files.now.policy.now files.now.target.now (pacing_form files.now.pacing) files.now.capture.now contents) result fabric.old fabric.new
+        files.now.latest files.now.policy.now files.now.target.now (pacing_form files.now.pacing) files.now.capture.now contents) result fabric.old fabric.new
         (sight_of T.kind_of T.state_of watch.old) (sight_of T.kind_of T.state_of watch.new)) }
     ensures fewer { AreNoMore (sight_of T.kind_of T.state_of watch.old)
         (sight_of T.kind_of T.state_of watch.new) }
@@ -331,7 +331,7 @@ pub fn replay_files<S: Shelf, K: Sink, F: Fabric, T: Tap>(
     ensures causes { HasCauses result (S.faults shelf.old) (S.faults shelf.new) (K.faults sink.old)
         (K.faults sink.new) }
 {
-    match read_policy(alloc, shelf, files.policy)? {
+    match read_policy(alloc, files.latest, shelf, files.policy)? {
         Read::Accepted(judged) => replay_target(
             alloc,
             &judged.policy,

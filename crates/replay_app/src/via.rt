@@ -312,7 +312,7 @@ pub fn via_files<S: Shelf, K: Sink, F: Fabric>(
     ensures causes { HasCauses result (S.faults shelf.old) (S.faults shelf.new) (K.faults sink.old)
         (K.faults sink.new) }
 {
-    match read_policy(alloc, shelf, files.policy)? {
+    match read_policy(alloc, files.latest, shelf, files.policy)? {
         Read::Accepted(judged) => via_topology(alloc, &judged.policy, files, shelf, sink, fabric),
         Read::Refused(refusal) => refuse(alloc, sink, FaultKind::Policy, refusal),
     }

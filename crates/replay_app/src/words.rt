@@ -3,10 +3,11 @@ ghost use Rattle.std.specs.Prelude.{◌≡◌, ◌≤◌, IfSome, IsFalse, IsTru
 ghost use Rattle.sched_defs.specs.SendTime.{IsByteRate};
 ghost use Rattle.sched_run.specs.Drawings.{most_load};
 ghost use Rattle.replay_app.specs.Behind.{UsesNoFabric};
-ghost use Rattle.replay_app.specs.Words.{form_in, rate_of, number_within, load_of, three_words, named_in, last_rate, pacing_by, via_by, form_of, no_form, texts};
+ghost use Rattle.replay_app.specs.Words.{form_up_to, rate_of, number_within, load_of, three_words, named_in, last_rate, pacing_by, via_by, form_of, no_form, texts};
 ghost use Rattle.replay_app.specs.Named.{pacing_form, via_form, command_form, HasRate, CanRun};
 
 use events_core::MOST_RATE;
+use policy_text::Edition;
 use rank_defs::MAX_RANK;
 use sched_capture::LoadSize;
 use sched_run::MOST_LOAD;
@@ -27,6 +28,8 @@ pub enum Pacing<'a> {
 /// The file names of a run through the fabric.
 #[derive(Clone, Copy, Debug)]
 pub struct ReplayFiles<'a> {
+    /// The policy is read up to this edition.
+    pub latest: Edition,
     pub policy: &'a str,
     pub target: &'a str,
     pub capture: &'a str,
@@ -36,6 +39,8 @@ pub struct ReplayFiles<'a> {
 /// The file names of a run through a policy's own tree.
 #[derive(Clone, Copy, Debug)]
 pub struct DirectFiles<'a> {
+    /// The policy is read up to this edition.
+    pub latest: Edition,
     pub policy: &'a str,
     pub capture: &'a str,
     pub script: &'a str,
@@ -44,6 +49,8 @@ pub struct DirectFiles<'a> {
 /// The file names of a plan.
 #[derive(Clone, Copy, Debug)]
 pub struct PlanFiles<'a> {
+    /// The policy is read up to this edition.
+    pub latest: Edition,
     pub policy: &'a str,
     pub target: &'a str,
 }
@@ -51,6 +58,8 @@ pub struct PlanFiles<'a> {
 /// The file names of a run along a given map.
 #[derive(Clone, Copy, Debug)]
 pub struct ViaFiles<'a> {
+    /// The policy is read up to this edition.
+    pub latest: Edition,
     pub policy: &'a str,
     pub topology: &'a str,
     pub map: &'a str,
@@ -64,8 +73,8 @@ pub struct ViaFiles<'a> {
 pub enum Command<'a> {
     /// Runs these files through the fabric, paced by a script or by a link.
     Replay(ReplayFiles<'a>),
-    /// Prints the canonical text of a policy file.
-    Check(&'a str),
+    /// Prints the canonical text of a policy file, which is read up to this edition.
+    Check(Edition, &'a str),
     /// Prints where a target holds a policy's tree.
     Plan(PlanFiles<'a>),
     /// Runs these files through the policy's own tree.
@@ -103,13 +112,20 @@ fn load_of(seed: &str, count: &str) -> Option<LoadSize>
 }
 
 /// Parses a command line of three arguments.
-fn three_words<'a>(command: &str, second: &'a str, third: &'a str) -> Option<Command<'a>>
+fn three_words<'a>(
+    latest: Edition,
+    command: &str,
+    second: &'a str,
+    third: &'a str,
+) -> Option<Command<'a>>
     ensures range { IfSome result CanRun }
-    ensures form { MatchOption result (three_words command.now second.now third.now ≡ no_form) (λ c.
-        three_words command.now second.now third.now ≡ command_form c) }
+    ensures form { MatchOption result (three_words latest command.now second.now third.now ≡
+        no_form) (λ c.
+        three_words latest command.now second.now third.now ≡ command_form c) }
 {
     match command {
         "plan" => Some(Command::Plan(PlanFiles {
+            latest,
             policy: second,
             target: third,
         })),
@@ -161,18 +177,20 @@ fn pacing_of<'a>(command: &str, fifth: &'a str, more: &[String]) -> Option<Pacin
 /// Returns the files of a run along a given map, if exactly a capture and a script follow these
 /// four names.
 fn via_by<'a>(
+    latest: Edition,
     policy: &'a str,
     topology: &'a str,
     map: &'a str,
     target: &'a str,
     more: &'a [String],
 ) -> Option<ViaFiles<'a>>
-    ensures { MatchOption result (via_by policy.now topology.now map.now target.now
+    ensures { MatchOption result (via_by latest policy.now topology.now map.now target.now
         (texts more.now) ≡ no_form) (λ files.
-        via_by policy.now topology.now map.now target.now (texts more.now) ≡ via_form files) }
+        via_by latest policy.now topology.now map.now target.now (texts more.now) ≡ via_form files) }
 {
     match more {
         [capture, script] => Some(ViaFiles {
+            latest,
             policy,
             topology,
             map,
@@ -184,21 +202,23 @@ fn via_by<'a>(
     }
 }
 
-/// Parses the arguments, or returns none if they are malformed.
-pub fn command_of(words: &[String]) -> Option<Command<'_>>
+/// Parses the arguments of a command whose policy is read up to the edition `latest`. Returns none
+/// if they are malformed.
+pub fn command_of(latest: Edition, words: &[String]) -> Option<Command<'_>>
     ensures range { IfSome result CanRun }
-    ensures form { MatchOption result (form_of (texts words.now) ≡ no_form) (λ c.
-        form_of (texts words.now) ≡ command_form c) }
+    ensures form { MatchOption result (form_of latest (texts words.now) ≡ no_form) (λ c.
+        form_of latest (texts words.now) ≡ command_form c) }
 {
     match words {
         [command, policy] => {
-            (command.as_str() == "check").then_some(Command::Check(policy.as_str()))
+            (command.as_str() == "check").then_some(Command::Check(latest, policy.as_str()))
         }
         [command, second, third] => {
-            three_words(command.as_str(), second.as_str(), third.as_str())
+            three_words(latest, command.as_str(), second.as_str(), third.as_str())
         }
         [command, policy, capture, script] => {
             (command.as_str() == "direct").then_some(Command::Direct(DirectFiles {
+                latest,
                 policy: policy.as_str(),
                 capture: capture.as_str(),
                 script: script.as_str(),
@@ -206,6 +226,7 @@ pub fn command_of(words: &[String]) -> Option<Command<'_>>
         }
         [command, policy, topology, map, target, more @ ..] if command.as_str() == "via" => {
             let files = via_by(
+                latest,
                 policy.as_str(),
                 topology.as_str(),
                 map.as_str(),
@@ -217,6 +238,7 @@ pub fn command_of(words: &[String]) -> Option<Command<'_>>
         [command, policy, target, capture, fifth, more @ ..] => {
             let pacing = pacing_of(command.as_str(), fifth.as_str(), more)?;
             Some(Command::Replay(ReplayFiles {
+                latest,
                 policy: policy.as_str(),
                 target: target.as_str(),
                 capture: capture.as_str(),
@@ -228,12 +250,12 @@ pub fn command_of(words: &[String]) -> Option<Command<'_>>
 }
 
 /// Returns whether the arguments give a command that runs packets through the fabric.
-pub fn uses_fabric(words: &[String]) -> bool
-    ensures used { IsTrue result → UsesNoFabric (form_in words.now) → ⊥ }
-    ensures unused { IsFalse result → UsesNoFabric (form_in words.now) }
+pub fn uses_fabric(latest: Edition, words: &[String]) -> bool
+    ensures used { IsTrue result → UsesNoFabric (form_up_to latest words.now) → ⊥ }
+    ensures unused { IsFalse result → UsesNoFabric (form_up_to latest words.now) }
 {
     matches!(
-        command_of(words),
+        command_of(latest, words),
         Some(Command::Replay(_) | Command::Soak(_) | Command::Via(_))
     )
 }

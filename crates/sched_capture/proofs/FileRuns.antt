@@ -1,5 +1,5 @@
 -- A run over the packets left of a capture is the run over its file.
-use Rattle.sched_capture.proofs.Prelude.{◌≡◌, List, Some, ℕ, None, Option, arith, refl, Result, Err, Ok, ◌≤◌, on_ok_weaker, IfSome, OnOk, IfOk, IfErr, sink-then, Stop, FileContents, holds, no_capture, in_file, Resolved, Left, Ending, CanEndSo, IsNoPastLast, Sight, answer_of, answer_over, IsRefusal, paced_answer, RunAnswer, HaveWatched, shown_by, IsReported, KeepsOutside}
+use Rattle.sched_capture.proofs.Prelude.{List, Some, ℕ, None, Option, arith, refl, Result, Err, Ok, ◌≤◌, on_ok_weaker, IfSome, OnOk, IfOk, IfErr, sink-then, Stop, FileContents, holds, no_capture, in_file, Resolved, Left, Ending, CanEndSo, IsNoPastLast, Sight, answer_of, answer_over, IsRefusal, paced_answer, RunAnswer, HaveWatched, shown_by, IsReported, KeepsOutside}
 use Rattle.outside_core.specs.Kept.{KeepsSink, HasCause}
 use Rattle.outside_core.specs.declared.stop.Stop.TheVariants.{Source, Sink, Memory}
 use Rattle.outside_core.proofs.FaultLaws.{rose_after}

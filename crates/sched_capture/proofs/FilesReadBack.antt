@@ -1,8 +1,9 @@
 -- The departures forwarded of a file are read back.
-use Rattle.sched_capture.proofs.Prelude.{◌≡◌, List, Some, ℕ, None, Option, arith, [], refl, ◌+◌, ◌∷◌, Bool, false, length, true, ◌≤◌, ◌<◌, if◌then◌else◌, map, ◌^◌, ◌==◌, length-map, AllByRecursion, list_all, unwrap_or, other_link, behind_packet, first_link, of_link, of_one_link, Fields, FileContents, holds, no_capture, Contents, FaultAt, CapturedPacket, most_captured, in_file, Resolved, IsSendable, AreNumberedFrom, captured_from, LinkRate, forward_over, class_given, packets_from, one_link_in, link_in, ahead_in}
+use Rattle.sched_capture.proofs.Prelude.{◌≡◌, List, Some, ℕ, None, Option, arith, [], refl, ◌+◌, ◌∷◌, Bool, false, length, true, ◌≤◌, ◌<◌, if◌then◌else◌, map, ◌^◌, ◌==◌, length-map, AllByRecursion, list_all, unwrap_or, other_link, behind_packet, first_link, of_link, of_one_link, FileContents, holds, no_capture, Contents, FaultAt, CapturedPacket, most_captured, in_file, Resolved, IsSendable, AreNumberedFrom, captured_from, LinkRate, forward_over, class_given, packets_from, one_link_in, link_in, ahead_in}
 use Rattle.std.proofs.lemmas.List.Quantifiers.{position-Some}
-use Rattle.packet_defs.specs.Condition.{Condition, meets, class_of}
-use Rattle.packet_core.specs.Conditions.{condition_of, conditions_of}
+use Rattle.packet_defs.specs.declared.extra.Header.{Header}
+use Rattle.packet_defs.specs.Test.{belongs, class_among}
+use Rattle.packet_core.specs.Tests.{tests_of, classes_of}
 use Rattle.forward_defs.proofs.ReadBack.{forwarded_runs-read_back}
 use Rattle.sched_capture.specs.Laws.{AreReadBack, ForwardsAreReadBack}
 use Rattle.sched_capture.proofs.RunnablePolicies.{IsRunnable, runnable}
@@ -22,10 +23,10 @@ module _ (policy : Resolved) (can : IsRunnable policy) where
   given_below None found = can.accepted.some_class
   given_below (Some i) found = found i refl
 
-  class_there : (fields : Fields) (n : ℕ) → class_given policy fields n < length policy.policy.classes
-  class_there fields n =
-      given_below (class_of (conditions_of policy.conditions) fields n)
-      (λ i is. omega (arith, (position-Some (λ (cs : List Condition). list_all (meets fields n) cs) (conditions_of policy.conditions) i [] is).0, length-map policy.conditions (λ cs. map condition_of cs), can.conditions))
+  class_there : (header : Header) (n : ℕ) → class_given policy header n < length policy.policy.classes
+  class_there header n =
+      given_below (class_among (classes_of policy.conditions) header n)
+      (λ i is. omega (arith, (position-Some (belongs header n) (classes_of policy.conditions) i [] is).0, length-map policy.conditions tests_of, can.conditions))
 
   sendable : (n : ℕ) (ps : List CapturedPacket) → AllByRecursion IsInRange ps → AllByRecursion (IsSendable policy.policy) (packets_from policy n ps)
   sendable n [] range = tt

@@ -1,5 +1,5 @@
 -- The answer of a run over packets of one link type, for the file of these packets.
-use Rattle.sched_capture.proofs.Prelude.{◌≡◌, List, Some, ℕ, None, Option, sym, subst, ap, ◌∙◌, Result, Err, Ok, IfSome_then, on_err_weaker, on_ok_weaker, IfSome, OnErr, OnOk, prefix_of_nothing, appended_in_turn, appended_nothing, prefix_in_turn, prefix_of_longer, Appended, AppendedPrefix, Stop, FileContents, holds, no_capture, FaultAt, in_file, Policy, Resolved, outcomes, Captured, Left, StaysKnown, captured_from, start, Ending, LinkRate, on_err_given, IsRefusal, AreCapturedIn, left_in, forward_events, forward_over, forward_answer, sent_bytes, ForwardAnswer, forward_of, forward_refusal, refusal_ending, one_link_in, link_in}
+use Rattle.sched_capture.proofs.Prelude.{◌≡◌, List, Some, ℕ, None, Option, sym, subst, ap, ◌∙◌, Result, IfSome_then, on_err_weaker, on_ok_weaker, IfSome, OnErr, OnOk, prefix_of_nothing, appended_in_turn, appended_nothing, prefix_in_turn, prefix_of_longer, Appended, AppendedPrefix, Stop, FileContents, holds, no_capture, FaultAt, in_file, Policy, Resolved, outcomes, Captured, Left, StaysKnown, captured_from, start, Ending, LinkRate, on_err_given, IsRefusal, AreCapturedIn, left_in, forward_events, forward_over, forward_answer, sent_bytes, ForwardAnswer, forward_of, forward_refusal, refusal_ending, one_link_in, link_in}
 use Rattle.pcap_core.specs.Bytes.{header_bytes}
 use Rattle.sched_capture.specs.Arrivals.{Begins}
 use Rattle.sched_capture.specs.CapturedBytes.{captured_from-are}

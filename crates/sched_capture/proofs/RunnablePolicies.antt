@@ -10,6 +10,7 @@ use Rattle.tree_graph.proofs.WholeTree.{shallow-root, size-is, sound as sound-tr
 use Rattle.rank_defs.specs.Shapes.{IsShaped}
 use Rattle.rank_defs.specs.Builtins.{builtins}
 use Rattle.policy_text_defs.specs.Sense.{Entry}
+use Rattle.policy_text_defs.specs.declared.edition.Edition.TheVariants.{Classic}
 use Rattle.policy_text_defs.specs.Text.{HasEntries}
 use Rattle.policy_rules.specs.Names.{declared, node_name}
 use Rattle.policy_rules.specs.Clauses.{root}
@@ -44,9 +45,9 @@ as_many es tree [] (c ∷ cs) are = absurd are
 as_many es tree (d ∷ ds) [] are = absurd are
 as_many es tree (d ∷ ds) (c ∷ cs) are = ap suc (as_many es tree ds cs are.2)
 
-module _ (text : List ℕ) (es : List Entry) (r : Resolved) (has : HasEntries text es) (accepted : AreAccepted es) (resolved : IsResolved es r) where
+module _ (text : List ℕ) (es : List Entry) (r : Resolved) (has : HasEntries Classic text es) (accepted : AreAccepted es) (resolved : IsResolved es r) where
   sound : HasSoundEntries es
-  sound = sound_entries text es has
+  sound = sound_entries Classic text es has
 
   abbrev graph : Graph
   graph = graph_of es

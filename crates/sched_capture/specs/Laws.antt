@@ -4,6 +4,7 @@ use Rattle.pcap_defs.specs.Contents.{FileContents, no_capture, holds}
 use Rattle.pcapng_defs.specs.Laws.{AreAlike}
 use Rattle.pcapng_defs.specs.NgContents.{in_file}
 use Rattle.policy_text_defs.specs.Sense.{Entry}
+use Rattle.policy_text_defs.specs.declared.edition.Edition.TheVariants.{Classic}
 use Rattle.policy_text_defs.specs.Text.{HasEntries}
 use Rattle.policy_defs.specs.Policy.{Policy}
 use Rattle.policy_rules.specs.Accepted.{AreAccepted}
@@ -49,5 +50,5 @@ AreReadBack policy rate link (holds contents) bytes =
 abbrev pub ForwardsAreReadBack : Type 0
 ForwardsAreReadBack =
     (text : List ℕ) (entries : List Entry) (policy : Resolved) (rate : LinkRate) (file : List ℕ)
-    → HasEntries text entries → AreAccepted entries → IsResolved entries policy → AreBytes file
+    → HasEntries Classic text entries → AreAccepted entries → IsResolved entries policy → AreBytes file
     → AreReadBack policy rate (link_in (in_file file)) (one_link_in (in_file file)) (forward_answer policy rate file).text

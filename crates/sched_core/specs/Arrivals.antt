@@ -1,10 +1,11 @@
 -- The result of an arrival.
-use Rattle.std.specs.Prelude.{ℕ, if◌then◌else◌, Result, Ok, Err}
+use Rattle.std.specs.Prelude.{◌≡◌, ℕ, if◌then◌else◌, Result, Ok, Err, IfOk}
 use Rattle.std.specs.declared.alloc.AllocError.{AllocError}
 use Rattle.packet_defs.specs.declared.packet.Packet.{Packet}
 use Rattle.policy_defs.specs.Policy.{Policy}
 use Rattle.policy_defs.specs.Numbers.{number_at}
 use Rattle.sched_defs.specs.SourceState.{SourceState, class_of, is_full}
+use Rattle.tree_core.specs.Paths.{Way}
 use Rattle.sched_core.specs.declared.scheduler.Arrival.{Arrival}
 use Rattle.sched_core.specs.declared.scheduler.Arrival.TheVariants.{Pushed, Dropped}
 
@@ -35,3 +36,11 @@ WhereDropped P (Dropped leaf) = P
 abbrev pub WhereNotPushed : Type 0 → Result Arrival AllocError → Type 0
 WhereNotPushed P (Ok a) = WhereDropped P a
 WhereNotPushed P (Err e) = P
+
+-- If the packet was pushed, the trace has the digits of its leaf. Otherwise the trace is unchanged, and
+-- if it was dropped, so are the queues. The room of the trace is unchanged.
+pub record LeavesPath {U : Type 0} (policy : Policy) (p : Packet) (result : Result Arrival AllocError) (queues queues' : U) (way way' : Way) : Type 0 where
+  pub digits : IfOk result (WherePushed (way'.digits ≡ (class_of policy p).leaf))
+  pub under : IfOk result (WhereDropped (queues' ≡ queues))
+  pub trace : WhereNotPushed (way' ≡ way) result
+  pub room : way'.room ≡ way.room

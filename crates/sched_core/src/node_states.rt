@@ -15,7 +15,7 @@ use crate::path_node::{PathNode, all_waypoints};
 use crate::walk::{pop_along, push_along};
 use packet_defs::Packet;
 use policy_core::Policy;
-use rank_core::{NodeState, Who};
+use rank_core::NodeState;
 use std::alloc::{AllocError, Global};
 use tree_core::Taken;
 
@@ -62,7 +62,7 @@ impl<'a> NodeStates<'a> {
         ensures policy { policy_of self.new ≡ policy_of self.old }
     {
         let leaf = self.policy.classes()[packet.class as usize].leaf;
-        self.states[leaf as usize].reserve(&Who::Flow(packet.flow))
+        self.states[leaf as usize].reserve(&packet.flow)
     }
 
     /// Runs the push steps from the root to the leaf of a packet's class, and sets `trace` to the

@@ -1,15 +1,15 @@
 //! The trait of schedulers that drive queues by a policy.
-ghost use Rattle.std.specs.Prelude.{◌≡◌, ◌<◌, ◌≤◌, ◌+◌, ◌^◌, ◌↔◌, ℕ, false, Option, IsNone, OnOk, OnErr, IfOk, IfSome, IfNone};
+ghost use Rattle.std.specs.Prelude.{◌≡◌, ◌<◌, ◌≤◌, ◌+◌, ◌^◌, ◌↔◌, ℕ, false, Option, IsNone, MatchResult, IfOk, IfSome, IfNone};
 ghost use Rattle.tree_defs.specs.Tree.{depth};
 ghost use Rattle.tree_defs.specs.SourceTree.{size};
 ghost use Rattle.policy_defs.specs.Policy.{Policy};
 ghost use Rattle.policy_defs.specs.Accepted.{IsAccepted};
-ghost use Rattle.sched_defs.specs.SourceState.{SourceState, class_of, arrival_ranks, is_full, arrived, departed, leaver};
+ghost use Rattle.sched_defs.specs.SourceState.{SourceState, arrival_ranks, is_full, arrived, departed, leaver};
 ghost use Rattle.sched_defs.specs.Events.{CanArrive};
 ghost use Rattle.sched_core.specs.Standing.{ForOne, ForEach};
-ghost use Rattle.sched_core.specs.Origins.{Origin};
+ghost use Rattle.sched_core.specs.Origins.{Origin, KeepsPolicy};
 ghost use Rattle.sched_core.specs.Spills.{raised, spills_at};
-ghost use Rattle.sched_core.specs.Arrivals.{arrival_of, pushes_of, WherePushed, WhereDropped, WhereNotPushed};
+ghost use Rattle.sched_core.specs.Arrivals.{arrival_of, pushes_of, WherePushed, LeavesPath};
 ghost use Rattle.sched_core.specs.Departures.{IsTaken, next_departed};
 
 use packet_defs::{Departed, Packet};
@@ -63,29 +63,22 @@ pub trait Scheduler {
         requires room { depth (policy self.old).tree ≤ trace.old.room }
         requires few { pushes self.old < 2 ^ 61 }
 
-        ensures ok { OnOk result (ForEach stands policy self.old under.old (λ p s.
-            stands self.new under.new (arrived p packet.now s))) }
+        ensures state { MatchResult result (λ _. ForEach stands policy self.old under.old (λ p s.
+            stands self.new under.new (arrived p packet.now s)))
+            (λ _. ForEach stands policy self.old under.old (λ p s.
+            stands self.new under.new s × (is_full p packet.now s ≡ false))) }
         ensures answer { IfOk result (λ a. ForEach stands policy self.old under.old (λ p s. a ≡
             arrival_of p packet.now s)) }
-        ensures digits { IfOk result (WherePushed (trace.new.digits ≡
-            (class_of (policy self.old) packet.now).leaf)) }
         ensures ranks { IfOk result (WherePushed (
             ForEach stands policy self.old under.old (λ p s. trace.new.ranks ≡ arrival_ranks p packet.now s))) }
-        ensures under { IfOk result (WhereDropped (under.new ≡ under.old)) }
-        ensures err { OnErr result (ForEach stands policy self.old under.old (λ _ s.
-            stands self.new under.new s)) }
-        ensures has_room { OnErr result (ForEach stands policy self.old under.old (λ p s.
-            is_full p packet.now s ≡ false)) }
-        ensures trace { WhereNotPushed (trace.new ≡ trace.old) result }
-        ensures room { trace.new.room ≡ trace.old.room }
-        ensures spilled { OnOk result (ForEach stands policy self.old under.old (λ p s.
-            spilled self.new under.new ≡ raised (spilled self.old under.old) (spills_at (origin self.old) p packet.now s))) }
-        ensures spilled_stays { OnErr result (spilled self.new under.new ≡
-            spilled self.old under.old) }
+        ensures path { LeavesPath (policy self.old) packet.now result under.old under.new trace.old
+            trace.new }
+        ensures spilled { MatchResult result (λ _. ForEach stands policy self.old under.old (λ p s.
+            spilled self.new under.new ≡ raised (spilled self.old under.old) (spills_at (origin self.old) p packet.now s)))
+            (λ _. spilled self.new under.new ≡ spilled self.old under.old) }
         ensures pushes { pushes self.new ≡ pushes self.old + pushes_of result }
         ensures departures { departures self.new ≡ departures self.old }
-        ensures policy { policy self.new ≡ policy self.old }
-        ensures origin { origin self.new ≡ origin self.old };
+        ensures kept { KeepsPolicy policy origin self.old self.new };
 
     /// Dequeues the next packet, if one is queued. The packet is popped, and the pop steps run on
     /// its path with the ranks taken. `trace` gets the digits and these ranks. Takes no memory.
@@ -108,8 +101,7 @@ pub trait Scheduler {
         ensures spilled { spilled self.new under.new ≡ spilled self.old under.old }
         ensures pushes { pushes self.new ≡ pushes self.old }
         ensures departures { departures self.new ≡ departures self.old + 1 }
-        ensures policy { policy self.new ≡ policy self.old }
-        ensures origin { origin self.new ≡ origin self.old };
+        ensures kept { KeepsPolicy policy origin self.old self.new };
 
     /// Returns how many packets are queued.
     fn held(&self) -> u64

@@ -16,12 +16,12 @@ pub struct Slot {
     pub(crate) place: u8,
     version: u8,
     proto: u8,
-    sport: u16,
     dport: u16,
+    sport: u16,
     source: u32,
     target: u32,
-    class: u32,
     len: u32,
+    class: u32,
     moment: u64,
 }
 

@@ -10,9 +10,9 @@ use crate::packet_path::PacketPath;
 use rank_core::{Form, NodeState, Who, pop_by_form, push_by_form};
 use tree_core::Taken;
 
-/// Runs the lines of the push step at a level of the path. Returns the packet's rank there.
-#[inline(never)]
-fn push_lines(states: &mut [NodeState], passage: &PacketPath, digits: &[u32], level: usize) -> u64
+/// Runs the push step at a level of the path by its form. Returns the packet's rank there.
+#[inline(always)]
+fn push_step(states: &mut [NodeState], passage: &PacketPath, digits: &[u32], level: usize) -> u64
     requires ready { IsReady passage.now }
     requires digits { digits.now ≡ (class_for passage.now).leaf }
     requires level { level ≤ length digits.now }
@@ -38,6 +38,25 @@ fn push_lines(states: &mut [NodeState], passage: &PacketPath, digits: &[u32], le
     push_by_form(&waypoint.push, transaction, state, &flow, &env)
 }
 
+/// Runs the lines of the push step at a level of the path. Returns the packet's rank there.
+#[inline(never)]
+fn push_lines(states: &mut [NodeState], passage: &PacketPath, digits: &[u32], level: usize) -> u64
+    requires ready { IsReady passage.now }
+    requires digits { digits.now ≡ (class_for passage.now).leaf }
+    requires level { level ≤ length digits.now }
+    requires kept { AreStations (tree_for passage.now) states.old }
+    requires room { HasRoomAtLeaf passage.now states.old }
+    ensures rank { ForValues passage.now states.old (λ v. result ≡
+        rank_at v (stop passage.now level)) }
+    ensures values { ValuesBecome passage.now states.old states.new
+        (after_pushes (stop passage.now level ∷ [])) }
+    ensures kept { AreStations (tree_for passage.now) states.new }
+    ensures room { KeepsRoom passage.now states.old states.new }
+    ensures limit { result ≤ max_rank }
+{
+    push_step(states, passage, digits, level)
+}
+
 /// Runs the push step at a level of the path. Returns the packet's rank there. If the marks alone
 /// determine the rank, as in most nodes, nothing is looked up for it.
 #[inline(always)]
@@ -58,19 +77,16 @@ fn push_at(states: &mut [NodeState], passage: &PacketPath, digits: &[u32], level
     let waypoint = &passage.waypoints[level];
     match waypoint.told {
         Some(rank) => rank,
-        None => push_lines(states, passage, digits, level),
+        None => match waypoint.push {
+            Form::Fair(_) => push_step(states, passage, digits, level),
+            _ => push_lines(states, passage, digits, level),
+        },
     }
 }
 
-/// Runs the lines of the pop step at a level of the path, for a packet taken with a rank.
-#[inline(never)]
-fn pop_lines(
-    states: &mut [NodeState],
-    passage: &PacketPath,
-    digits: &[u32],
-    level: usize,
-    rank: u64,
-)
+/// Runs the pop step at a level of the path by its form, for a packet taken with a rank.
+#[inline(always)]
+fn pop_step(states: &mut [NodeState], passage: &PacketPath, digits: &[u32], level: usize, rank: u64)
     requires ready { IsReady passage.now }
     requires digits { digits.now ≡ (class_for passage.now).leaf }
     requires level { level ≤ length digits.now }
@@ -95,8 +111,33 @@ fn pop_lines(
     }
 }
 
+/// Runs the lines of the pop step at a level of the path, for a packet taken with a rank. A call of
+/// its own keeps the steps that have none, or only store the rank, short.
+#[inline(never)]
+fn pop_lines(
+    states: &mut [NodeState],
+    passage: &PacketPath,
+    digits: &[u32],
+    level: usize,
+    rank: u64,
+)
+    requires ready { IsReady passage.now }
+    requires digits { digits.now ≡ (class_for passage.now).leaf }
+    requires level { level ≤ length digits.now }
+    requires kept { AreStations (tree_for passage.now) states.old }
+    requires room { HasRoomAtLeaf passage.now states.old }
+    requires limit { rank ≤ max_rank }
+    ensures values { ValuesBecome passage.now states.old states.new
+        (after_pops (stop passage.now level ∷ []) (rank ∷ [])) }
+    ensures kept { AreStations (tree_for passage.now) states.new }
+    ensures room { KeepsRoom passage.now states.old states.new }
+{
+    pop_step(states, passage, digits, level, rank);
+}
+
 /// Runs the pop step at a level of the path, for a packet taken with a rank. If the node has no
-/// lines, as most have none, nothing is looked up for it.
+/// lines, as most have none, nothing is looked up for it. A step that stores the rank is shorter
+/// than a call.
 #[inline(always)]
 fn pop_at(states: &mut [NodeState], passage: &PacketPath, digits: &[u32], level: usize, rank: u64)
     requires ready { IsReady passage.now }
@@ -113,6 +154,7 @@ fn pop_at(states: &mut [NodeState], passage: &PacketPath, digits: &[u32], level:
     let waypoint = &passage.waypoints[level];
     match waypoint.pop {
         Form::Empty => (),
+        Form::Kept(_) => pop_step(states, passage, digits, level, rank),
         _ => pop_lines(states, passage, digits, level, rank),
     }
 }

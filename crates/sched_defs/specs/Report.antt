@@ -1,5 +1,5 @@
 -- The report of a run.
-use Rattle.std.specs.Prelude.{ℕ, ◌+◌, ◌==◌, if◌then◌else◌, Option, None, Some, List, [], ◌∷◌, ◌++◌, codes}
+use Rattle.std.specs.Prelude.{ℕ, ◌+◌, nat_le, if◌then◌else◌, Option, None, Some, List, [], ◌∷◌, ◌++◌, codes}
 use Rattle.tree_defs.specs.SourceTree.{size}
 use Rattle.packet_defs.specs.declared.packet.Packet.{Packet}
 use Rattle.policy_defs.specs.Policy.{Policy, name_at}
@@ -27,9 +27,9 @@ lines_from policy event (o ∷ os) = outcome_line policy event o ++ lines_from p
 abbrev pub past_last : ℕ
 past_last = 3
 
--- the number of packets dropped is shown for version 2, since no leaf of version 1 has a limit
+-- the number of packets dropped is shown from version 2 on, since no leaf of version 1 has a limit
 abbrev pub shown_drops : Policy → ℕ → Option ℕ
-shown_drops policy dropped = if policy.version == 2 then Some dropped else None
+shown_drops policy dropped = if nat_le 2 policy.version then Some dropped else None
 
 -- the last line of a report after these outcomes, with `held` packets queued
 abbrev pub last_line : Policy → List Outcome → ℕ → Ending → List ℕ

@@ -1,5 +1,5 @@
 -- Worked examples of runs.
-use Rattle.std.specs.Prelude.{◌≡◌, refl, ℕ, None, Some, List, [], ◌∷◌, codes}
+use Rattle.std.specs.Prelude.{◌≡◌, refl, ℕ, None, Some, List, [], ◌∷◌, map, codes}
 use Rattle.std.specs.Fmt.{digits}
 use Rattle.sched_defs.specs.Faults.{FaultAt}
 use Rattle.rank_defs.specs.declared.environment.FlowKey.{FlowKey}
@@ -13,7 +13,7 @@ use Rattle.tree_defs.specs.Tree.{leaf, inner, none, more}
 use Rattle.packet_defs.specs.declared.packet.Packet.{Packet}
 use Rattle.policy_defs.specs.Policy.{Policy, no_marks, Node, one_leaf}
 use Rattle.sched_defs.specs.Script.{Arrivals, Departures, Rest, Drain}
-use Rattle.sched_defs.specs.Report.{report}
+use Rattle.sched_defs.specs.Report.{report, shown_drops}
 
 abbrev pub no_flow : FlowKey
 no_flow = record { version = 0; source = 0; target = 0; proto = 0; sport = 0; dport = 0 }
@@ -122,6 +122,10 @@ pub report-one_leaf_limited : report one_leaf_limited (Arrivals 2 ∷ Departures
     ≡ codes "a 1 1 root 0\nx 2 2 root\nd 3 1 root 0\ne 4\ne 5\nend pushed 1 popped 1 empty 2 held 0 unsent 0 dropped 1\n"
 unfolding digits
 report-one_leaf_limited = refl
+
+-- version 1 shows no count of drops, and later versions do
+pub drops_shown : map (λ v. shown_drops (record one_leaf_limited { version = v }) 7) (1 ∷ 2 ∷ 3 ∷ []) ≡ None ∷ Some 7 ∷ Some 7 ∷ []
+drops_shown = refl
 
 -- a dropped packet raises `now`, which ranks the next one
 abbrev pub by_time_limited : Policy

@@ -1,5 +1,6 @@
 -- The totals of a run, from its counts.
-use Rattle.sched_run.proofs.Prelude.{ℕ, arith, None, ◌∙◌, ◌≡◌, refl, sym, List, ◌+◌, ap, Some, ◌≤◌, if◌then◌else◌, ◌==◌, IsAccepted, Policy, ForEachState, StandForOne, Ghosts, none_lost, Event, outcomes, after, Outcome, empty_in, dropped_in, pushed_in, popped_in, IsHeldBelow, IsSound, SourceState, size, Recordings, AreJoined, Makes, Stage, arrivals_in, CanBegin, IsFresh, AreTotals, HasTotals, Totals}
+use Rattle.sched_run.proofs.Prelude.{ℕ, arith, None, ◌∙◌, ◌≡◌, refl, sym, List, ◌+◌, ap, Some, ◌≤◌, if◌then◌else◌, IsAccepted, Policy, ForEachState, StandForOne, Ghosts, none_lost, Event, outcomes, after, Outcome, empty_in, dropped_in, pushed_in, popped_in, IsHeldBelow, IsSound, SourceState, size, Recordings, AreJoined, Makes, Stage, arrivals_in, CanBegin, IsFresh, AreTotals, HasTotals, Totals}
+use Rattle.std.specs.Prelude.{nat_le}
 use Rattle.sched_defs.specs.Report.{shown_drops}
 use Rattle.sched_run.proofs.MadeEvents.{can_make, stands_after}
 use Rattle.sched_run.proofs.EventCounts.{AreOf, outcomes_of}
@@ -28,7 +29,7 @@ module _ {C U W : Type 0} (S : Ghosts C U) (R : Recordings W) (laws : AreJoined 
         same_popped = popped;
         same_empty = omega (arith, counts.asked, popped, totals.asked, made.asked, fresh.none_asked);
         same_held = sym still ∙ sym totals.still;
-        same_dropped = ap (shown_drops policy) dropped ∙ ap (λ (v : ℕ). if v == 2 then Some new.tally.dropped else None) (sym own) ∙ sym totals.shown;
+        same_dropped = ap (shown_drops policy) dropped ∙ ap (λ (v : ℕ). if nat_le 2 v then Some new.tally.dropped else None) (sym own) ∙ sym totals.shown;
       }
 
   -- the number of queued packets in each state

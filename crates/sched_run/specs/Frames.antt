@@ -1,5 +1,8 @@
 -- The conditions that each call of a run needs and keeps.
-use Rattle.std.specs.Prelude.{◌≡◌, ◌≤◌, ◌+◌}
+use Rattle.std.specs.Prelude.{◌≡◌, ◌≤◌, ◌<◌, ◌+◌, ◌^◌, ℕ, Bool, if◌then◌else◌, Result, IfOk, IfErr, OnOk, OnErr}
+use Rattle.outside_core.specs.Kept.{KeepsSink, HasCause, HasSinkCause}
+use Rattle.outside_core.specs.declared.stop.Stop.{Stop}
+use Rattle.outside_core.specs.declared.sinks.Sink as sink
 use Rattle.tree_defs.specs.Tree.{depth}
 use Rattle.policy_defs.specs.Policy.{Policy}
 use Rattle.policy_defs.specs.Accepted.{IsAccepted}
@@ -8,6 +11,8 @@ use Rattle.sched_defs.specs.Packets.{most_packets, StaysKnown}
 use Rattle.sched_defs.specs.declared.packets.Packets as packets
 use Rattle.sched_core.specs.declared.scheduler.Scheduler.{Ghosts}
 use Rattle.sched_core.specs.Standing.{StandForOne, ForEachState}
+use Rattle.tree_core.specs.Paths.{Way}
+use Rattle.tap_core.specs.Watching.{Sight, AreNoMore}
 use Rattle.sched_run.specs.declared.recorder.Recorder as recorder
 use Rattle.sched_run.specs.declared.run.Run.{Run}
 use Rattle.sched_run.specs.declared.tally.Tally.{Tally}
@@ -30,6 +35,14 @@ pub record Continues {C U N W : Type 0} (S : Ghosts C U) (old new : Run C N W) :
   pub version : new.version ≡ old.version
   pub room : new.trace.room ≡ old.trace.room
 
+-- A call on the run that reads no packets leaves the policy, the names and what the sink was given.
+-- Outcomes can still be recorded unless the call fails, and it fails only for a cause.
+pub record KeepsRun {C U N W K X : Type 0} (S : Ghosts C U) (R : recorder.Ghosts W) (k : sink.Ghosts K) (result : Result X Stop) (old new : Run C N W) (to to' : K) : Type 0 where
+  pub kept : Continues S old new
+  pub live : OnOk result (R.live new.recorder)
+  pub kept_sink : KeepsSink k.written k.faults to to'
+  pub cause : IfErr result (λ stop. HasSinkCause stop k.faults to to')
+
 -- the scheduler and its queues represent a sound state with P
 abbrev pub Stand : {C U N W : Type 0} → Ghosts C U → Run C N W → U → (SourceState → Type 0) → Type 0
 Stand S run u P = StandForOne S.stands (S.policy run.scheduler) run.scheduler u P
@@ -42,6 +55,50 @@ FromAll S run u P = ForEachState S.stands (S.policy run.scheduler) run.scheduler
 pub record KeepsPackets {P S : Type 0} (p : packets.Ghosts P S) (old new : P) (source source' : S) : Type 0 where
   pub policy : p.policy new ≡ p.policy old
   pub later : p.faults source ≤ p.faults source'
+
+-- The same for a call that reads packets. At most 2^32 - 1 packets have arrived after it, and no taps
+-- were added.
+pub record KeepsPlay {C U N W P F K X : Type 0} (S : Ghosts C U) (R : recorder.Ghosts W) (p : packets.Ghosts P F) (k : sink.Ghosts K) (result : Result X Stop) (old new : Run C N W)
+    (left left' : P) (source source' : F) (to to' : K) (sight sight' : Sight) : Type 0 where
+  pub kept : Continues S old new
+  pub live : OnOk result (R.live new.recorder)
+  pub came : new.tally.came ≤ most_packets
+  pub fewer : AreNoMore sight sight'
+  pub kept_sink : KeepsSink k.written k.faults to to'
+  pub kept_packets : KeepsPackets p left left' source source'
+  pub cause : IfErr result (λ stop. HasCause stop p.faults source source' k.faults to to')
+
+-- packets that are read for the run: resolved under its policy, and more may be read
+pub record Feeds {C U N W P F : Type 0} (S : Ghosts C U) (p : packets.Ghosts P F) (run : Run C N W) (left : P) (source : F) : Type 0 where
+  pub packets : p.policy left ≡ S.policy run.scheduler
+  pub ready : p.ready left source
+
+-- the counts have room for one more arrival
+pub record HasRoomForOne {C U N W : Type 0} (S : Ghosts C U) (run : Run C N W) : Type 0 where
+  pub pushes : S.pushes run.scheduler < 2 ^ 61
+  pub events : run.tally.came + run.tally.asked < 2 ^ 62
+  pub dropped : run.tally.dropped ≤ run.tally.came
+
+-- one arrival was counted, unless the answer says that the run is over or the call failed
+pub record CountsOne {X : Type 0} (over : X → Bool) (result : Result X Stop) (old new : Tally) : Type 0 where
+  pub came : IfOk result (λ x. new.came ≡ (if over x then old.came else old.came + 1))
+  pub stays : OnErr result (new.came ≡ old.came)
+
+-- the counts have room for a whole run after this many packets
+pub record HasRoomToBegin {C U N W : Type 0} (S : Ghosts C U) (run : Run C N W) (given : ℕ) : Type 0 where
+  pub pushes : S.pushes run.scheduler < 2 ^ 60
+  pub departures : S.departures run.scheduler < 2 ^ 60
+  pub few : given ≤ most_packets
+
+-- A departure can be made and recorded: the policy is accepted, the names are the policy's own, the
+-- scheduler and its queues represent a sound state, and path, count and recorder have room.
+pub record CanDepart {C U W : Type 0} (S : Ghosts C U) (records : W → Type 0) (named : Policy) (scheduler : C) (under : U) (trace : Way) (recorder : W) : Type 0 where
+  pub accepted : IsAccepted (S.policy scheduler)
+  pub names : named ≡ S.policy scheduler
+  pub stands : StandForOne S.stands (S.policy scheduler) scheduler under (λ _. Unit {0})
+  pub room : depth (S.policy scheduler).tree ≤ trace.room
+  pub few : S.departures scheduler < 2 ^ 61
+  pub live : records recorder
 
 -- As many packets were read as were counted, and more may be read. All that is known of the
 -- captured bytes stays known for the packets left.

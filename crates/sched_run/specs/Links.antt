@@ -1,5 +1,6 @@
 -- The results of a link's consecutive departures and arrivals.
-use Rattle.std.specs.Prelude.{◌≡◌, ◌≤◌, ◌<◌, ◌^◌, ◌+◌, ◌*◌, ℕ, Bool, true, false, Option, List}
+use Rattle.std.specs.Prelude.{◌≡◌, ◌≤◌, ◌<◌, ◌^◌, ◌+◌, ◌*◌, ℕ, Bool, true, false, Option, List, Result, IfOk, OnOk}
+use Rattle.outside_core.specs.declared.stop.Stop.{Stop}
 use Rattle.tree_defs.specs.SourceTree.{size}
 use Rattle.policy_defs.specs.Policy.{Policy}
 use Rattle.sched_defs.specs.SourceState.{SourceState}
@@ -7,6 +8,9 @@ use Rattle.sched_defs.specs.Events.{Event}
 use Rattle.sched_defs.specs.Link.{Sent}
 use Rattle.sched_defs.specs.Numbered.{IsHeldBelow}
 use Rattle.sched_core.specs.declared.scheduler.Scheduler.{Ghosts}
+use Rattle.sched_defs.specs.SendTime.{IsRate}
+use Rattle.sched_defs.specs.declared.rate.LinkRate.{LinkRate}
+use Rattle.sched_run.specs.declared.run.Run.{Run}
 use Rattle.sched_run.specs.declared.tally.Tally.{Tally}
 use Rattle.sched_run.specs.Stages.{Stage, FromEach, Makes, MakesLast, StopsLast}
 use Rattle.sched_run.specs.Turns.{AreFirst}
@@ -56,3 +60,17 @@ pub record HasRoomToSend (departures : ℕ) (tally : Tally) : Type 0 where
   pub departures_fit : departures < 2 ^ 60 + tally.asked
   pub few_asked : tally.asked ≤ 2 ^ 34
   pub few_came : tally.came ≤ 2 ^ 32
+
+-- More can be recorded, the counts have room for the departures of all queued packets, the rate is in
+-- range, and the link is free early enough.
+pub record IsPaced {C U N W : Type 0} (S : Ghosts C U) (over : W → Bool) (run : Run C N W) (free : ℕ) (speed : LinkRate) : Type 0 where
+  pub going : over run.recorder ≡ false
+  pub counts : HasRoomToSend (S.departures run.scheduler) run.tally
+  pub rate : IsRate speed
+  pub early : IsEarly free run.tally
+
+-- unless the call failed, its answer is whether nothing more can be recorded, and the link is free
+-- early enough
+pub record Paces {C N W : Type 0} (ended : W → Bool) (result : Result Bool Stop) (run : Run C N W) (free : ℕ) : Type 0 where
+  pub over : IfOk result (λ is. ended run.recorder ≡ is)
+  pub early : OnOk result (IsEarly free run.tally)

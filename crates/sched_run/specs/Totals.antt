@@ -1,5 +1,5 @@
 -- The totals of the last line.
-use Rattle.std.specs.Prelude.{◌≡◌, ◌≤◌, ◌<◌, ◌^◌, ◌==◌, ℕ, ◌+◌, if◌then◌else◌, Some, None, List, codes}
+use Rattle.std.specs.Prelude.{◌≡◌, ◌≤◌, ◌<◌, ◌^◌, nat_le, ℕ, ◌+◌, if◌then◌else◌, Some, None, List, codes}
 use Rattle.outside_core.specs.Report.{end_line, fault_line}
 use Rattle.sched_defs.specs.declared.ending.Ending.{Ending}
 use Rattle.sched_defs.specs.declared.ending.Ending.TheVariants.{Whole, BadCapture, PastLast}
@@ -23,10 +23,10 @@ pub record HasTotals (tally : Tally) (first held : ℕ) : Type 0 where
 
 -- The totals of a run that began with `first` packets queued and has `held` queued now. Each packet
 -- that arrived was pushed or dropped. Each that was queued or pushed was popped or is still queued.
--- Each departure popped a packet or found none. Drops are shown for version 2.
+-- Each departure popped a packet or found none. Drops are shown from version 2 on.
 pub record AreTotals (tally : Tally) (first held version : ℕ) (t : Totals) : Type 0 where
   pub came : t.pushed + tally.dropped ≡ tally.came
   pub passed : t.popped + held ≡ first + t.pushed
   pub asked : t.popped + t.empty ≡ tally.asked
   pub still : t.held ≡ held
-  pub shown : t.dropped ≡ (if version == 2 then Some tally.dropped else None)
+  pub shown : t.dropped ≡ (if nat_le 2 version then Some tally.dropped else None)

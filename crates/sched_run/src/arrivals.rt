@@ -12,14 +12,12 @@ use sched_defs::{Ending, Packets};
 use tap_core::{Tap, Watching};
 
 impl<'a, C: Scheduler + Drop, N: NodeNames, W: DepartureRecorder> Run<'a, C, N, W> {
-    ghost use Rattle.std.specs.Prelude.{◌≡◌, ◌≤◌, ◌<◌, ◌+◌, ◌^◌, ℕ, [], ◌∷◌, None, length, IfErr, IfOk, IfNone, OnOk, OnErr};
+    ghost use Rattle.std.specs.Prelude.{◌≡◌, ◌≤◌, ◌+◌, ℕ, false, [], ◌∷◌, length, IfOk, IfNone, OnOk, OnErr};
     ghost use Rattle.pcap_defs.specs.Record.{most_captured};
-    ghost use Rattle.outside_core.specs.Kept.{KeepsSink, HasCause, HasSinkCause};
     ghost use Rattle.sched_defs.specs.Events.{Arrive, CanArrive};
-    ghost use Rattle.sched_defs.specs.Packets.{most_packets};
     ghost use Rattle.sched_defs.specs.Numbered.{IsHeldBelow};
     ghost use Rattle.sched_run.specs.Heard.{heard, heard_with};
-    ghost use Rattle.sched_run.specs.Frames.{IsSet, Continues, Stand, KeepsPackets, IsFurther};
+    ghost use Rattle.sched_run.specs.Frames.{IsSet, Stand, Feeds, HasRoomForOne, CountsOne, KeepsRun, KeepsPlay, IsFurther};
     ghost use Rattle.sched_defs.specs.Script.{Rest, step_events};
     ghost use Rattle.sched_run.specs.Stages.{stage_of, HasRoomFor, AreNext, Makes, Stops};
     ghost use Rattle.tap_core.specs.Watching.{sight_of, AreNoMore};
@@ -40,9 +38,7 @@ impl<'a, C: Scheduler + Drop, N: NodeNames, W: DepartureRecorder> Run<'a, C, N, 
         requires set { IsSet C.Scheduler W.Recorder N.policy self.old }
         requires stands { Stand C.Scheduler self.old under.old (λ s.
             CanArrive (C.policy self.old.scheduler) s packet.now) }
-        requires few { C.pushes self.old.scheduler < 2 ^ 61 }
-        requires events { self.old.tally.came + self.old.tally.asked < 2 ^ 62 }
-        requires dropped { self.old.tally.dropped ≤ self.old.tally.came }
+        requires room { HasRoomForOne C.Scheduler self.old }
 
         ensures ok { OnOk result ((given : ℕ) → AreNext (C.policy self.old.scheduler) given
             (packet.now ∷ []) →
@@ -54,16 +50,13 @@ impl<'a, C: Scheduler + Drop, N: NodeNames, W: DepartureRecorder> Run<'a, C, N, 
             Stops C.Scheduler (heard_with W.Recorder packet.now captured.now) (C.policy self.old.scheduler) (Arrive packet.now ∷ [])
             (stage_of self.old under.old (K.written sink.old) given
             (sight_of T.kind_of T.state_of watch.old)) self.new.scheduler under.new (K.written sink.new)) }
-        ensures came { OnOk result (self.new.tally.came ≡ self.old.tally.came + 1) }
-        ensures came_stays { OnErr result (self.new.tally.came ≡ self.old.tally.came) }
+        ensures counts { CountsOne (λ _. false) result self.old.tally self.new.tally }
         ensures asked { self.new.tally.asked ≡ self.old.tally.asked }
-        ensures kept { Continues C.Scheduler self.old self.new }
+        ensures keeps { KeepsRun C.Scheduler W.Recorder K.Sink result self.old self.new sink.old
+            sink.new }
         ensures fewer { AreNoMore (sight_of T.kind_of T.state_of watch.old)
             (sight_of T.kind_of T.state_of watch.new) }
-        ensures kept_sink { KeepsSink K.written K.faults sink.old sink.new }
-        ensures cause { IfErr result (λ stop. HasSinkCause stop K.faults sink.old sink.new) }
         ensures over { OnOk result (W.over self.new.recorder ≡ W.over self.old.recorder) }
-        ensures live { OnOk result (W.live self.new.recorder) }
     {
         let event = self.tally.event();
         let arrival = self.record_arrival(under, sink, event, packet, captured)?;
@@ -84,8 +77,7 @@ impl<'a, C: Scheduler + Drop, N: NodeNames, W: DepartureRecorder> Run<'a, C, N, 
         source: &mut P::Source,
     ) -> Result<Option<Ending>, Stop>
         requires set { IsSet C.Scheduler W.Recorder N.policy self.old }
-        requires packets { P.policy packets.old ≡ C.policy self.old.scheduler }
-        requires ready { P.ready packets.old source.old }
+        requires feeds { Feeds C.Scheduler P.Packets self.old packets.old source.old }
         requires stands { Stand C.Scheduler self.old under.old (λ s.
             IsHeldBelow (P.given packets.old + 1) s.held) }
         requires counts { HasRoomFor C.Scheduler self.old (P.given packets.old) }
@@ -102,18 +94,11 @@ impl<'a, C: Scheduler + Drop, N: NodeNames, W: DepartureRecorder> Run<'a, C, N, 
             (P.left packets.old source.old)
             (stage_of self.old under.old (K.written sink.old) (P.given packets.old)
             (sight_of T.kind_of T.state_of watch.old)) self.new.scheduler under.new (K.written sink.new)) }
-        ensures kept { Continues C.Scheduler self.old self.new }
-        ensures fewer { AreNoMore (sight_of T.kind_of T.state_of watch.old)
-            (sight_of T.kind_of T.state_of watch.new) }
-        ensures kept_sink { KeepsSink K.written K.faults sink.old sink.new }
-        ensures kept_packets { KeepsPackets P.Packets packets.old packets.new source.old
-            source.new }
-        ensures cause { IfErr result (λ stop. HasCause stop P.faults source.old source.new K.faults
-            sink.old sink.new) }
+        ensures keeps { KeepsPlay C.Scheduler W.Recorder P.Packets K.Sink result self.old self.new
+            packets.old packets.new source.old source.new sink.old sink.new
+            (sight_of T.kind_of T.state_of watch.old) (sight_of T.kind_of T.state_of watch.new) }
         ensures further { IfOk result (λ e. GoesOn e (
             IsFurther P.Packets packets.old packets.new source.old source.new self.old.tally self.new.tally)) }
-        ensures came { self.new.tally.came ≤ most_packets }
-        ensures live { OnOk result (W.live self.new.recorder) }
     {
         let mut packet = BLANK;
         match packets.next(source, &mut packet) {
@@ -140,8 +125,7 @@ impl<'a, C: Scheduler + Drop, N: NodeNames, W: DepartureRecorder> Run<'a, C, N, 
         count: u64,
     ) -> Result<Option<Ending>, Stop>
         requires set { IsSet C.Scheduler W.Recorder N.policy self.old }
-        requires packets { P.policy packets.old ≡ C.policy self.old.scheduler }
-        requires ready { P.ready packets.old source.old }
+        requires feeds { Feeds C.Scheduler P.Packets self.old packets.old source.old }
         requires stands { Stand C.Scheduler self.old under.old (λ s.
             IsHeldBelow (P.given packets.old + 1) s.held) }
         requires counts { HasRoomFor C.Scheduler self.old (P.given packets.old) }
@@ -158,18 +142,11 @@ impl<'a, C: Scheduler + Drop, N: NodeNames, W: DepartureRecorder> Run<'a, C, N, 
             (P.left packets.old source.old)
             (stage_of self.old under.old (K.written sink.old) (P.given packets.old)
             (sight_of T.kind_of T.state_of watch.old)) self.new.scheduler under.new (K.written sink.new)) }
-        ensures kept { Continues C.Scheduler self.old self.new }
-        ensures fewer { AreNoMore (sight_of T.kind_of T.state_of watch.old)
-            (sight_of T.kind_of T.state_of watch.new) }
-        ensures kept_sink { KeepsSink K.written K.faults sink.old sink.new }
-        ensures kept_packets { KeepsPackets P.Packets packets.old packets.new source.old
-            source.new }
-        ensures cause { IfErr result (λ stop. HasCause stop P.faults source.old source.new K.faults
-            sink.old sink.new) }
+        ensures keeps { KeepsPlay C.Scheduler W.Recorder P.Packets K.Sink result self.old self.new
+            packets.old packets.new source.old source.new sink.old sink.new
+            (sight_of T.kind_of T.state_of watch.old) (sight_of T.kind_of T.state_of watch.new) }
         ensures further { IfOk result (λ e. IfNone e (
             IsFurther P.Packets packets.old packets.new source.old source.new self.old.tally self.new.tally)) }
-        ensures came { self.new.tally.came ≤ most_packets }
-        ensures live { OnOk result (W.live self.new.recorder) }
     {
         for _sent in 0..count {
             let ending = self.arrive_next(under, sink, watch, packets, source)?;
@@ -191,8 +168,7 @@ impl<'a, C: Scheduler + Drop, N: NodeNames, W: DepartureRecorder> Run<'a, C, N, 
         source: &mut P::Source,
     ) -> Result<Option<Ending>, Stop>
         requires set { IsSet C.Scheduler W.Recorder N.policy self.old }
-        requires packets { P.policy packets.old ≡ C.policy self.old.scheduler }
-        requires ready { P.ready packets.old source.old }
+        requires feeds { Feeds C.Scheduler P.Packets self.old packets.old source.old }
         requires stands { Stand C.Scheduler self.old under.old (λ s.
             IsHeldBelow (P.given packets.old + 1) s.held) }
         requires counts { HasRoomFor C.Scheduler self.old (P.given packets.old) }
@@ -210,18 +186,11 @@ impl<'a, C: Scheduler + Drop, N: NodeNames, W: DepartureRecorder> Run<'a, C, N, 
             (P.left packets.old source.old)
             (stage_of self.old under.old (K.written sink.old) (P.given packets.old)
             (sight_of T.kind_of T.state_of watch.old)) self.new.scheduler under.new (K.written sink.new)) }
-        ensures kept { Continues C.Scheduler self.old self.new }
-        ensures fewer { AreNoMore (sight_of T.kind_of T.state_of watch.old)
-            (sight_of T.kind_of T.state_of watch.new) }
-        ensures kept_sink { KeepsSink K.written K.faults sink.old sink.new }
-        ensures kept_packets { KeepsPackets P.Packets packets.old packets.new source.old
-            source.new }
-        ensures cause { IfErr result (λ stop. HasCause stop P.faults source.old source.new K.faults
-            sink.old sink.new) }
+        ensures keeps { KeepsPlay C.Scheduler W.Recorder P.Packets K.Sink result self.old self.new
+            packets.old packets.new source.old source.new sink.old sink.new
+            (sight_of T.kind_of T.state_of watch.old) (sight_of T.kind_of T.state_of watch.new) }
         ensures further { IfOk result (λ e. IfNone e (
             IsFurther P.Packets packets.old packets.new source.old source.new self.old.tally self.new.tally)) }
-        ensures came { self.new.tally.came ≤ most_packets }
-        ensures live { OnOk result (W.live self.new.recorder) }
     {
         loop {
             let ending = self.arrive_next(under, sink, watch, packets, source)?;

@@ -97,16 +97,14 @@ fn close<K: Sink>(
 }
 
 impl<'a, C: Scheduler + Drop, N: NodeNames, W: DepartureRecorder> Run<'a, C, N, W> {
-    ghost use Rattle.std.specs.Prelude.{◌≡◌, ◌≤◌, true, false, IfErr, IfOk, IfSome, IsNone, OnOk, OnErr};
-    ghost use Rattle.outside_core.specs.Kept.{KeepsSink, HasCause};
+    ghost use Rattle.std.specs.Prelude.{◌≡◌, ◌≤◌, true, false, IfOk, IfSome, IsNone, OnOk, OnErr};
     ghost use Rattle.events_core.specs.Script.{most_count};
     ghost use Rattle.events_core.specs.Steps.{counts_of};
-    ghost use Rattle.sched_defs.specs.Packets.{most_packets};
     ghost use Rattle.sched_run.specs.Heard.{heard};
-    ghost use Rattle.sched_run.specs.Frames.{IsSet, Continues, Stand, KeepsPackets};
+    ghost use Rattle.sched_run.specs.Frames.{IsSet, Stand, Feeds, KeepsPlay};
     ghost use Rattle.sched_run.specs.Stages.{stage_of, event_of, IsFresh, CanBegin, HasRoomFor};
     ghost use Rattle.sched_run.specs.Turns.{StopsAmid};
-    ghost use Rattle.tap_core.specs.Watching.{sight_of, AreNoMore};
+    ghost use Rattle.tap_core.specs.Watching.{sight_of};
     ghost use Rattle.sched_run.specs.Courses.{script_agenda, course_of, Courses, CoursesUnless};
     ghost use Rattle.sched_run.specs.Steps.{IsBounded, CanEndSo};
 
@@ -122,8 +120,7 @@ impl<'a, C: Scheduler + Drop, N: NodeNames, W: DepartureRecorder> Run<'a, C, N, 
         steps: &[Step],
     ) -> Result<Ending, Stop>
         requires set { IsSet C.Scheduler W.Recorder N.policy self.old }
-        requires packets { P.policy packets.old ≡ C.policy self.old.scheduler }
-        requires ready { P.ready packets.old source.old }
+        requires feeds { Feeds C.Scheduler P.Packets self.old packets.old source.old }
         requires stands { Stand C.Scheduler self.old under.old (CanBegin (P.given packets.old)) }
         requires counts { HasRoomFor C.Scheduler self.old (P.given packets.old) }
         requires fresh { IsFresh self.old.tally }
@@ -142,16 +139,9 @@ impl<'a, C: Scheduler + Drop, N: NodeNames, W: DepartureRecorder> Run<'a, C, N, 
             (P.left packets.old source.old)
             (stage_of self.old under.old (K.written sink.old) (P.given packets.old)
             (sight_of T.kind_of T.state_of watch.old)) self.new.scheduler under.new (K.written sink.new)) }
-        ensures kept { Continues C.Scheduler self.old self.new }
-        ensures fewer { AreNoMore (sight_of T.kind_of T.state_of watch.old)
-            (sight_of T.kind_of T.state_of watch.new) }
-        ensures kept_sink { KeepsSink K.written K.faults sink.old sink.new }
-        ensures kept_packets { KeepsPackets P.Packets packets.old packets.new source.old
-            source.new }
-        ensures cause { IfErr result (λ stop. HasCause stop P.faults source.old source.new K.faults
-            sink.old sink.new) }
-        ensures came { self.new.tally.came ≤ most_packets }
-        ensures live { OnOk result (W.live self.new.recorder) }
+        ensures keeps { KeepsPlay C.Scheduler W.Recorder P.Packets K.Sink result self.old self.new
+            packets.old packets.new source.old source.new sink.old sink.new
+            (sight_of T.kind_of T.state_of watch.old) (sight_of T.kind_of T.state_of watch.new) }
     {
         for step in steps {
             let ending = self.play_step(under, sink, watch, packets, source, *step)?;
@@ -175,8 +165,7 @@ impl<'a, C: Scheduler + Drop, N: NodeNames, W: DepartureRecorder> Run<'a, C, N, 
     ) -> Result<Option<Ending>, Stop>
         requires set { IsSet C.Scheduler W.Recorder N.policy self.old }
         requires going { W.over self.old.recorder ≡ false }
-        requires packets { P.policy packets.old ≡ C.policy self.old.scheduler }
-        requires ready { P.ready packets.old source.old }
+        requires feeds { Feeds C.Scheduler P.Packets self.old packets.old source.old }
         requires stands { Stand C.Scheduler self.old under.old (CanBegin (P.given packets.old)) }
         requires counts { HasRoomFor C.Scheduler self.old (P.given packets.old) }
         requires fresh { IsFresh self.old.tally }
@@ -196,18 +185,11 @@ impl<'a, C: Scheduler + Drop, N: NodeNames, W: DepartureRecorder> Run<'a, C, N, 
             (P.left packets.old source.old)
             (stage_of self.old under.old (K.written sink.old) (P.given packets.old)
             (sight_of T.kind_of T.state_of watch.old)) self.new.scheduler under.new (K.written sink.new)) }
-        ensures kept { Continues C.Scheduler self.old self.new }
-        ensures fewer { AreNoMore (sight_of T.kind_of T.state_of watch.old)
-            (sight_of T.kind_of T.state_of watch.new) }
-        ensures kept_sink { KeepsSink K.written K.faults sink.old sink.new }
-        ensures kept_packets { KeepsPackets P.Packets packets.old packets.new source.old
-            source.new }
-        ensures cause { IfErr result (λ stop. HasCause stop P.faults source.old source.new K.faults
-            sink.old sink.new) }
-        ensures came { self.new.tally.came ≤ most_packets }
+        ensures keeps { KeepsPlay C.Scheduler W.Recorder P.Packets K.Sink result self.old self.new
+            packets.old packets.new source.old source.new sink.old sink.new
+            (sight_of T.kind_of T.state_of watch.old) (sight_of T.kind_of T.state_of watch.new) }
         ensures ends { IfOk result (λ o. IfSome o (CanEndSo pace.entry)) }
         ensures over { IfOk result (λ o. IsNone o → W.over self.new.recorder ≡ true) }
-        ensures live { OnOk result (W.live self.new.recorder) }
     {
         match pace {
             Pace::Script(steps) => {
@@ -220,13 +202,11 @@ impl<'a, C: Scheduler + Drop, N: NodeNames, W: DepartureRecorder> Run<'a, C, N, 
 }
 
 impl<'a, C: Scheduler + Drop, N: NodeNames> Run<'a, C, N, Report> {
-    ghost use Rattle.std.specs.Prelude.{◌≡◌, ◌≤◌, ◌<◌, ◌+◌, ◌^◌, [], IsTrue, IfErr, IfOk, OnOk, OnErr};
-    ghost use Rattle.outside_core.specs.Kept.{KeepsSink, HasCause};
+    ghost use Rattle.std.specs.Prelude.{◌≡◌, [], IfOk, OnOk, OnErr};
     ghost use Rattle.report_core.specs.Gathered.{text_of};
-    ghost use Rattle.sched_defs.specs.Packets.{most_packets};
-    ghost use Rattle.sched_run.specs.Frames.{IsSet, Continues, Stand, KeepsPackets};
+    ghost use Rattle.sched_run.specs.Frames.{IsSet, Stand, Feeds, HasRoomToBegin, KeepsPlay};
     ghost use Rattle.sched_run.specs.Stages.{CanBegin};
-    ghost use Rattle.tap_core.specs.Watching.{sight_of, Shows, AreNoMore};
+    ghost use Rattle.tap_core.specs.Watching.{sight_of, Shows};
     ghost use Rattle.sched_defs.specs.Events.{outcomes};
     ghost use Rattle.sched_run.specs.Shown.{shown_in};
     ghost use Rattle.sched_run.specs.Courses.{course_of, OnCourse, Runs, Breaks};
@@ -245,12 +225,9 @@ impl<'a, C: Scheduler + Drop, N: NodeNames> Run<'a, C, N, Report> {
         pace: Pace<'_>,
     ) -> Result<Ending, Stop>
         requires set { IsSet C.Scheduler ⟦<Report as Recorder>⟧ N.policy self.old }
-        requires packets { P.policy packets.old ≡ C.policy self.old.scheduler }
-        requires ready { P.ready packets.old source.old }
+        requires feeds { Feeds C.Scheduler P.Packets self.old packets.old source.old }
         requires stands { Stand C.Scheduler self.old under.old (CanBegin (P.given packets.old)) }
-        requires pushes { C.pushes self.old.scheduler < 2 ^ 60 }
-        requires departures { C.departures self.old.scheduler < 2 ^ 60 }
-        requires few { P.given packets.old ≤ most_packets }
+        requires room { HasRoomToBegin C.Scheduler self.old (P.given packets.old) }
         requires bounded { IsBounded pace }
 
         ensures ok { OnOk result (OnCourse C.stands (C.policy self.old.scheduler) self.old.scheduler
@@ -273,16 +250,10 @@ impl<'a, C: Scheduler + Drop, N: NodeNames> Run<'a, C, N, Report> {
             (course_of (C.policy self.old.scheduler) pace.entry) (λ s run.
             Shows (shown_in (C.policy self.old.scheduler) (outcomes (C.policy self.old.scheduler) run.events s))
             (sight_of T.kind_of T.state_of watch.old) (sight_of T.kind_of T.state_of watch.new))) }
-        ensures kept { Continues C.Scheduler self.old self.new }
-        ensures fewer { AreNoMore (sight_of T.kind_of T.state_of watch.old)
-            (sight_of T.kind_of T.state_of watch.new) }
-        ensures kept_sink { KeepsSink K.written K.faults sink.old sink.new }
-        ensures kept_packets { KeepsPackets P.Packets packets.old packets.new source.old
-            source.new }
-        ensures cause { IfErr result (λ stop. HasCause stop P.faults source.old source.new K.faults
-            sink.old sink.new) }
+        ensures keeps { KeepsPlay C.Scheduler ⟦<Report as Recorder>⟧ P.Packets K.Sink result
+            self.old self.new packets.old packets.new source.old source.new sink.old sink.new
+            (sight_of T.kind_of T.state_of watch.old) (sight_of T.kind_of T.state_of watch.new) }
         ensures ends { IfOk result (CanEndSo pace.entry) }
-        ensures live { OnOk result (IsTrue self.new.recorder.live) }
         ensures none_left { OnOk result (self.new.recorder.unwritten ≡ []) }
     {
         let first = self.scheduler.held();

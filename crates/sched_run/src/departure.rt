@@ -1,13 +1,12 @@
 //! The trait for making departures and recording them.
-ghost use Rattle.std.specs.Prelude.{◌<◌, ◌≤◌, ◌≡◌, ◌^◌, [], ◌∷◌, OnOk, OnErr};
+ghost use Rattle.std.specs.Prelude.{[], ◌∷◌, OnOk, OnErr};
 ghost use Rattle.outside_core.specs.Faults.{Rose};
 ghost use Rattle.outside_core.specs.Kept.{KeepsSink};
-ghost use Rattle.tree_defs.specs.Tree.{depth};
-ghost use Rattle.policy_defs.specs.Accepted.{IsAccepted};
 ghost use Rattle.sched_defs.specs.Events.{Depart, outcomes};
-ghost use Rattle.sched_core.specs.Standing.{StandForOne, ForEachState};
+ghost use Rattle.sched_core.specs.Standing.{ForEachState};
 ghost use Rattle.sched_run.specs.Heard.{heard_anyway};
 ghost use Rattle.sched_run.specs.Played.{Departs};
+ghost use Rattle.sched_run.specs.Frames.{CanDepart};
 
 use crate::lines::record_departure;
 use crate::recorder::Recorder;
@@ -39,13 +38,8 @@ pub trait DepartureRecorder: Recorder {
         sink: &mut K,
         departure: Departure,
     ) -> Result<Option<Departed>, WriteFault>
-        requires accepted { IsAccepted (C.policy scheduler.old) }
-        requires names { N.policy names.now ≡ C.policy scheduler.old }
-        requires stands { StandForOne C.stands (C.policy scheduler.old) scheduler.old under.old
-            (λ _. Unit {0}) }
-        requires room { depth (C.policy scheduler.old).tree ≤ trace.old.room }
-        requires few { C.departures scheduler.old < 2 ^ 61 }
-        requires live { Self.live self.old }
+        requires can { CanDepart C.Scheduler Self.live (N.policy names.now) scheduler.old
+            under.old trace.old self.old }
 
         ensures departs { Departs C.Scheduler result scheduler.old under.old trace.old scheduler.new
             under.new trace.new }

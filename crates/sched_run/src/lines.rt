@@ -1,17 +1,13 @@
 //! One event and its record.
-ghost use Rattle.std.specs.Prelude.{◌≡◌, ◌<◌, ◌≤◌, ◌+◌, ◌^◌, ◌↔◌, [], ◌∷◌, None, option_map, is_ok, IsNone, IsTrue, IfErr, IfOk, OnOk, OnErr, IfSome, IfNone};
+ghost use Rattle.std.specs.Prelude.{◌≡◌, [], ◌∷◌, None, is_ok, OnOk, OnErr};
 ghost use Rattle.outside_core.specs.Faults.{Rose};
-ghost use Rattle.outside_core.specs.Kept.{KeepsSink, HasSinkCause};
+ghost use Rattle.outside_core.specs.Kept.{KeepsSink};
 ghost use Rattle.report_core.specs.Gathered.{Tells, CutsOff};
-ghost use Rattle.tree_defs.specs.Tree.{depth};
-ghost use Rattle.tree_defs.specs.SourceTree.{size};
-ghost use Rattle.policy_defs.specs.Accepted.{IsAccepted};
-ghost use Rattle.sched_defs.specs.SourceState.{departed, leaver};
 ghost use Rattle.sched_defs.specs.Events.{Depart, outcomes};
-ghost use Rattle.sched_core.specs.Standing.{StandForOne, ForEachState};
-ghost use Rattle.sched_core.specs.Departures.{departed_packet, IsTaken};
+ghost use Rattle.sched_core.specs.Standing.{ForEachState};
 ghost use Rattle.sched_run.specs.Heard.{heard_anyway};
-ghost use Rattle.sched_run.specs.Played.{AsksOnce, Departs, line_of};
+ghost use Rattle.sched_run.specs.Played.{Departs, line_of};
+ghost use Rattle.sched_run.specs.Frames.{CanDepart};
 
 use crate::departure::{Departure, DepartureRecorder};
 use crate::recorder::Recorder;
@@ -36,13 +32,8 @@ pub(crate) fn record_departure<C: Scheduler, N: NodeNames, W: Recorder, K: Sink>
     sink: &mut K,
     departure: Departure,
 ) -> Result<Option<Departed>, WriteFault>
-    requires accepted { IsAccepted (C.policy scheduler.old) }
-    requires names { N.policy names.now ≡ C.policy scheduler.old }
-    requires stands { StandForOne C.stands (C.policy scheduler.old) scheduler.old under.old (λ _.
-        Unit {0}) }
-    requires room { depth (C.policy scheduler.old).tree ≤ trace.old.room }
-    requires few { C.departures scheduler.old < 2 ^ 61 }
-    requires live { W.live recorder.old }
+    requires can { CanDepart C.Scheduler W.live (N.policy names.now) scheduler.old under.old
+        trace.old recorder.old }
 
     ensures departs { Departs C.Scheduler result scheduler.old under.old trace.old scheduler.new
         under.new trace.new }
@@ -83,26 +74,11 @@ pub fn depart_line<C: Scheduler, N: NodeNames, K: Sink>(
     sink: &mut K,
     event: u64,
 ) -> Result<Option<Departed>, WriteFault>
-    requires accepted { IsAccepted (C.policy scheduler.old) }
-    requires names { N.policy names.now ≡ C.policy scheduler.old }
-    requires stands { StandForOne C.stands (C.policy scheduler.old) scheduler.old under.old (λ _.
-        Unit {0}) }
-    requires room { depth (C.policy scheduler.old).tree ≤ trace.old.room }
-    requires few { C.departures scheduler.old < 2 ^ 61 }
-    requires live { IsTrue report.old.live }
+    requires can { CanDepart C.Scheduler ⟦<Report as Recorder>⟧.live (N.policy names.now)
+        scheduler.old under.old trace.old report.old }
 
-    ensures state { ForEachState C.stands (C.policy scheduler.old) scheduler.old under.old (λ s.
-        C.stands scheduler.new under.new (departed (C.policy scheduler.old) s)) }
-    ensures value { ForEachState C.stands (C.policy scheduler.old) scheduler.old under.old (λ s.
-        IfOk result (λ d. d ≡ option_map (departed_packet (C.policy scheduler.old)) (leaver s))) }
-    ensures none { ForEachState C.stands (C.policy scheduler.old) scheduler.old under.old (λ s.
-        IfOk result (λ d. IsNone d ↔ (size s.tree ≡ 0))) }
-    ensures taken { ForEachState C.stands (C.policy scheduler.old) scheduler.old under.old (λ s.
-        IfSome (leaver s) (λ l. IsTaken l trace.new)) }
-    ensures untouched { ForEachState C.stands (C.policy scheduler.old) scheduler.old under.old (λ s.
-        IfNone (leaver s) (trace.new ≡ trace.old)) }
-    ensures room { trace.new.room ≡ trace.old.room }
-
+    ensures departs { Departs C.Scheduler result scheduler.old under.old trace.old scheduler.new
+        under.new trace.new }
     ensures text { OnOk result (ForEachState C.stands (C.policy scheduler.old) scheduler.old
         under.old (λ s.
         Tells K.written sink.old report.old sink.new report.new (line_of (C.policy scheduler.old) event (Depart None) s))) }
@@ -112,20 +88,18 @@ pub fn depart_line<C: Scheduler, N: NodeNames, K: Sink>(
     ensures kept { KeepsSink K.written K.faults sink.old sink.new }
     ensures cause { OnErr result (Rose (K.faults sink.old) (K.faults sink.new)) }
     ensures live { report.new.live ≡ is_ok result }
-    ensures asked { AsksOnce C.Scheduler scheduler.old under.old scheduler.new under.new }
 {
     let departure = Departure { event, start: None };
     record_departure(names, scheduler, under, trace, report, sink, departure)
 }
 
 impl<'a, C: Scheduler + Drop, N: NodeNames, W: DepartureRecorder> Run<'a, C, N, W> {
-    ghost use Rattle.std.specs.Prelude.{◌≡◌, ◌≤◌, ◌<◌, ◌+◌, ◌^◌, ℕ, [], ◌∷◌, length, IsTrue, IfErr, IfOk, OnOk, OnErr};
+    ghost use Rattle.std.specs.Prelude.{◌≡◌, ◌≤◌, ◌<◌, ◌+◌, ◌^◌, ℕ, [], ◌∷◌, length, IfOk, OnOk, OnErr};
     ghost use Rattle.pcap_defs.specs.Record.{most_captured};
-    ghost use Rattle.outside_core.specs.Kept.{KeepsSink, HasSinkCause};
     ghost use Rattle.sched_defs.specs.Events.{Arrive, Depart, CanArrive};
     ghost use Rattle.sched_core.specs.Arrivals.{arrival_of};
     ghost use Rattle.sched_core.specs.Departures.{next_departed};
-    ghost use Rattle.sched_run.specs.Frames.{IsSet, Continues, Stand, FromAll};
+    ghost use Rattle.sched_run.specs.Frames.{IsSet, Stand, FromAll, KeepsRun};
     ghost use Rattle.sched_run.specs.Heard.{heard_anyway, heard_with};
     ghost use Rattle.sched_run.specs.Played.{Plays, StopsIn};
     ghost use Rattle.sched_run.specs.Stages.{stage_of, Makes, Stops};
@@ -157,10 +131,8 @@ impl<'a, C: Scheduler + Drop, N: NodeNames, W: DepartureRecorder> Run<'a, C, N, 
             self.old.recorder (K.written sink.old) self.new.scheduler under.new (K.written sink.new))) }
         ensures answer { IfOk result (λ a. FromAll C.Scheduler self.old under.old (λ s.
             a ≡ arrival_of (C.policy self.old.scheduler) packet.now s)) }
-        ensures kept { Continues C.Scheduler self.old self.new }
-        ensures kept_sink { KeepsSink K.written K.faults sink.old sink.new }
-        ensures cause { IfErr result (λ stop. HasSinkCause stop K.faults sink.old sink.new) }
-        ensures live { OnOk result (W.live self.new.recorder) }
+        ensures keeps { KeepsRun C.Scheduler W.Recorder K.Sink result self.old self.new sink.old
+            sink.new }
         ensures over { OnOk result (W.over self.new.recorder ≡ W.over self.old.recorder) }
         ensures tally { self.new.tally ≡ self.old.tally }
     {
@@ -208,12 +180,10 @@ impl<'a, C: Scheduler + Drop, N: NodeNames, W: DepartureRecorder> Run<'a, C, N, 
         ensures came { self.new.tally.came ≡ self.old.tally.came }
         ensures dropped { self.new.tally.dropped ≡ self.old.tally.dropped }
         ensures asked { OnOk result (self.new.tally.asked ≡ self.old.tally.asked + 1) }
-        ensures kept { Continues C.Scheduler self.old self.new }
+        ensures keeps { KeepsRun C.Scheduler W.Recorder K.Sink result self.old self.new sink.old
+            sink.new }
         ensures fewer { AreNoMore (sight_of T.kind_of T.state_of watch.old)
             (sight_of T.kind_of T.state_of watch.new) }
-        ensures kept_sink { KeepsSink K.written K.faults sink.old sink.new }
-        ensures cause { IfErr result (λ stop. HasSinkCause stop K.faults sink.old sink.new) }
-        ensures live { OnOk result (W.live self.new.recorder) }
     {
         let event = self.tally.event();
         let departed = self.recorder.depart(

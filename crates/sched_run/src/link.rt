@@ -46,20 +46,18 @@ fn idle_at(link: &mut Link, held: u64, moment: u64)
 }
 
 impl<'a, C: Scheduler + Drop, N: NodeNames, W: DepartureRecorder> Run<'a, C, N, W> {
-    ghost use Rattle.std.specs.Prelude.{◌≡◌, ◌≤◌, ◌<◌, ◌+◌, ◌^◌, ℕ, false, not, if◌then◌else◌, is_some, length, IfErr, IfOk, IfSome, OnOk, OnErr};
+    ghost use Rattle.std.specs.Prelude.{◌≡◌, ◌≤◌, ◌<◌, ◌+◌, ◌^◌, ℕ, false, not, if◌then◌else◌, is_some, length, IfOk, IfSome, OnOk, OnErr};
     ghost use Rattle.pcap_defs.specs.Record.{most_captured};
-    ghost use Rattle.outside_core.specs.Kept.{KeepsSink, HasCause, HasSinkCause};
     ghost use Rattle.sched_defs.specs.SendTime.{IsRate};
     ghost use Rattle.tree_defs.specs.SourceTree.{size};
     ghost use Rattle.sched_defs.specs.Link.{send_until, link_turn};
     ghost use Rattle.sched_defs.specs.Numbered.{IsSendable, IsHeldBelow};
-    ghost use Rattle.sched_defs.specs.Packets.{most_packets};
     ghost use Rattle.sched_run.specs.Heard.{heard_anyway, heard, heard_with};
-    ghost use Rattle.sched_run.specs.Frames.{IsSet, Continues, Stand, KeepsPackets};
+    ghost use Rattle.sched_run.specs.Frames.{IsSet, Stand, Feeds, HasRoomForOne, CountsOne, KeepsRun, KeepsPlay};
     ghost use Rattle.sched_run.specs.Stages.{stage_of, event_of, IsFresh, CanBegin, HasRoomFor};
     ghost use Rattle.sched_run.specs.Turns.{StopsAmid};
     ghost use Rattle.tap_core.specs.Watching.{sight_of, AreNoMore};
-    ghost use Rattle.sched_run.specs.Links.{SendsUnless, SendsAmid, IsEarly, CanSend, HasRoomToSend};
+    ghost use Rattle.sched_run.specs.Links.{SendsUnless, SendsAmid, CanSend, IsPaced, Paces};
     ghost use Rattle.sched_run.specs.Steps.{IsNoPastLast};
     ghost use Rattle.sched_run.specs.Courses.{link_agenda, CoursesUnless, CoursesAmid};
 
@@ -75,11 +73,8 @@ impl<'a, C: Scheduler + Drop, N: NodeNames, W: DepartureRecorder> Run<'a, C, N, 
         until: Option<u64>,
     ) -> Result<bool, Stop>
         requires set { IsSet C.Scheduler W.Recorder N.policy self.old }
-        requires going { W.over self.old.recorder ≡ false }
         requires stands { Stand C.Scheduler self.old under.old (CanSend self.old.tally) }
-        requires counts { HasRoomToSend (C.departures self.old.scheduler) self.old.tally }
-        requires rate { IsRate rate }
-        requires early { IsEarly link.old self.old.tally }
+        requires paced { IsPaced C.Scheduler W.over self.old link.old rate }
 
         ensures ok { IfOk result (λ over.
             (given : ℕ) → SendsUnless over C.Scheduler (heard_anyway W.Recorder) W.over (C.policy self.old.scheduler)
@@ -91,17 +86,14 @@ impl<'a, C: Scheduler + Drop, N: NodeNames, W: DepartureRecorder> Run<'a, C, N, 
             (λ s. send_until (C.policy self.old.scheduler) rate until (size s.tree) s link.old)
             (stage_of self.old under.old (K.written sink.old) given
             (sight_of T.kind_of T.state_of watch.old)) self.new.scheduler under.new (K.written sink.new)) }
-        ensures over { IfOk result (λ over. W.over self.new.recorder ≡ over) }
-        ensures early { OnOk result (IsEarly link.new self.new.tally) }
+        ensures paces { Paces W.over result self.new link.new }
         ensures came { self.new.tally.came ≡ self.old.tally.came }
         ensures dropped { self.new.tally.dropped ≡ self.old.tally.dropped }
         ensures few { OnOk result (self.new.tally.asked ≤ 2 ^ 34) }
-        ensures kept { Continues C.Scheduler self.old self.new }
+        ensures keeps { KeepsRun C.Scheduler W.Recorder K.Sink result self.old self.new sink.old
+            sink.new }
         ensures fewer { AreNoMore (sight_of T.kind_of T.state_of watch.old)
             (sight_of T.kind_of T.state_of watch.new) }
-        ensures kept_sink { KeepsSink K.written K.faults sink.old sink.new }
-        ensures cause { IfErr result (λ stop. HasSinkCause stop K.faults sink.old sink.new) }
-        ensures live { OnOk result (W.live self.new.recorder) }
     {
         let held = self.scheduler.held();
         for _sent in 0..held {
@@ -133,15 +125,11 @@ impl<'a, C: Scheduler + Drop, N: NodeNames, W: DepartureRecorder> Run<'a, C, N, 
     ) -> Result<bool, Stop>
         requires short { length captured.now ≤ most_captured }
         requires set { IsSet C.Scheduler W.Recorder N.policy self.old }
-        requires going { W.over self.old.recorder ≡ false }
         requires stands { Stand C.Scheduler self.old under.old (λ s.
             IsHeldBelow packet.now.number s.held × CanSend self.old.tally s) }
-        requires counts { HasRoomToSend (C.departures self.old.scheduler) self.old.tally }
-        requires few { C.pushes self.old.scheduler < 2 ^ 61 }
-        requires dropped { self.old.tally.dropped ≤ self.old.tally.came }
+        requires room { HasRoomForOne C.Scheduler self.old }
         requires sendable { IsSendable (C.policy self.old.scheduler) packet.now }
-        requires rate { IsRate rate }
-        requires early { IsEarly link.old self.old.tally }
+        requires paced { IsPaced C.Scheduler W.over self.old link.old rate }
 
         ensures ok { IfOk result (λ over. (given : ℕ) → packet.now.number ≡ given + 1 →
             SendsUnless over C.Scheduler (heard_with W.Recorder packet.now captured.now) W.over
@@ -155,17 +143,12 @@ impl<'a, C: Scheduler + Drop, N: NodeNames, W: DepartureRecorder> Run<'a, C, N, 
             (λ s. link_turn (C.policy self.old.scheduler) rate packet.now s link.old)
             (stage_of self.old under.old (K.written sink.old) given
             (sight_of T.kind_of T.state_of watch.old)) self.new.scheduler under.new (K.written sink.new)) }
-        ensures over { IfOk result (λ over. W.over self.new.recorder ≡ over) }
-        ensures early { OnOk result (IsEarly link.new self.new.tally) }
-        ensures came { IfOk result (λ over.
-            self.new.tally.came ≡ (if over then self.old.tally.came else self.old.tally.came + 1)) }
-        ensures came_stays { OnErr result (self.new.tally.came ≡ self.old.tally.came) }
-        ensures kept { Continues C.Scheduler self.old self.new }
+        ensures paces { Paces W.over result self.new link.new }
+        ensures counts { CountsOne (λ over. over) result self.old.tally self.new.tally }
+        ensures keeps { KeepsRun C.Scheduler W.Recorder K.Sink result self.old self.new sink.old
+            sink.new }
         ensures fewer { AreNoMore (sight_of T.kind_of T.state_of watch.old)
             (sight_of T.kind_of T.state_of watch.new) }
-        ensures kept_sink { KeepsSink K.written K.faults sink.old sink.new }
-        ensures cause { IfErr result (λ stop. HasSinkCause stop K.faults sink.old sink.new) }
-        ensures live { OnOk result (W.live self.new.recorder) }
     {
         let moment = self.scheduler.now().max(packet.moment);
         let over = self.send_until(under, sink, watch, link, rate, Some(moment))?;
@@ -191,8 +174,7 @@ impl<'a, C: Scheduler + Drop, N: NodeNames, W: DepartureRecorder> Run<'a, C, N, 
     ) -> Result<Option<Ending>, Stop>
         requires set { IsSet C.Scheduler W.Recorder N.policy self.old }
         requires going { W.over self.old.recorder ≡ false }
-        requires packets { P.policy packets.old ≡ C.policy self.old.scheduler }
-        requires ready { P.ready packets.old source.old }
+        requires feeds { Feeds C.Scheduler P.Packets self.old packets.old source.old }
         requires stands { Stand C.Scheduler self.old under.old (CanBegin (P.given packets.old)) }
         requires counts { HasRoomFor C.Scheduler self.old (P.given packets.old) }
         requires fresh { IsFresh self.old.tally }
@@ -212,18 +194,11 @@ impl<'a, C: Scheduler + Drop, N: NodeNames, W: DepartureRecorder> Run<'a, C, N, 
             (link_agenda (C.policy self.old.scheduler) rate 0) (P.left packets.old source.old)
             (stage_of self.old under.old (K.written sink.old) (P.given packets.old)
             (sight_of T.kind_of T.state_of watch.old)) self.new.scheduler under.new (K.written sink.new)) }
-        ensures kept { Continues C.Scheduler self.old self.new }
-        ensures fewer { AreNoMore (sight_of T.kind_of T.state_of watch.old)
-            (sight_of T.kind_of T.state_of watch.new) }
-        ensures kept_sink { KeepsSink K.written K.faults sink.old sink.new }
-        ensures kept_packets { KeepsPackets P.Packets packets.old packets.new source.old
-            source.new }
-        ensures cause { IfErr result (λ stop. HasCause stop P.faults source.old source.new K.faults
-            sink.old sink.new) }
-        ensures came { self.new.tally.came ≤ most_packets }
+        ensures keeps { KeepsPlay C.Scheduler W.Recorder P.Packets K.Sink result self.old self.new
+            packets.old packets.new source.old source.new sink.old sink.new
+            (sight_of T.kind_of T.state_of watch.old) (sight_of T.kind_of T.state_of watch.new) }
         ensures ends { IfOk result (λ o. IfSome o IsNoPastLast) }
         ensures over { IfOk result (λ o. W.over self.new.recorder ≡ not (is_some o)) }
-        ensures live { OnOk result (W.live self.new.recorder) }
     {
         let mut link = Link::new();
         let mut packet = BLANK;

@@ -14,12 +14,11 @@ use tap_core::{Tap, Watching};
 pub const MOST_LOAD: u64 = 1_000_000;
 
 impl<'a, C: Scheduler + Drop, N: NodeNames, W: DepartureRecorder> Run<'a, C, N, W> {
-    ghost use Rattle.std.specs.Prelude.{◌≡◌, ◌≤◌, ◌<◌, ◌+◌, ◌^◌, ℕ, [], ◌∷◌, IfErr, IfOk, OnOk, OnErr};
-    ghost use Rattle.outside_core.specs.Kept.{KeepsSink, HasSinkCause};
+    ghost use Rattle.std.specs.Prelude.{◌≡◌, ◌≤◌, ◌<◌, ◌+◌, ◌^◌, ℕ, [], ◌∷◌, IfOk, OnOk, OnErr};
     ghost use Rattle.sched_defs.specs.Numbered.{IsHeldBelow};
     ghost use Rattle.sched_core.specs.Standing.{ForEachState};
     ghost use Rattle.sched_run.specs.Heard.{heard_without};
-    ghost use Rattle.sched_run.specs.Frames.{IsSet, Continues, Stand};
+    ghost use Rattle.sched_run.specs.Frames.{IsSet, Stand, HasRoomForOne, HasRoomToBegin, KeepsRun};
     ghost use Rattle.sched_run.specs.Load.{first_drawing, load_event, load_events, load_next, load_run, MakesLoad};
     ghost use Rattle.sched_run.specs.Drawings.{HasLoadClasses, most_load};
     ghost use Rattle.sched_run.specs.Played.{StopsIn};
@@ -40,10 +39,8 @@ impl<'a, C: Scheduler + Drop, N: NodeNames, W: DepartureRecorder> Run<'a, C, N, 
         requires classes { HasLoadClasses (C.policy self.old.scheduler) }
         requires early { drawing.old.moment < 2 ^ 61 }
         requires few { drawing.old.number < 2 ^ 61 }
-        requires pushes { C.pushes self.old.scheduler < 2 ^ 61 }
         requires departures { C.departures self.old.scheduler < 2 ^ 61 }
-        requires events { self.old.tally.came + self.old.tally.asked < 2 ^ 62 }
-        requires dropped { self.old.tally.dropped ≤ self.old.tally.came }
+        requires room { HasRoomForOne C.Scheduler self.old }
 
         ensures ok { OnOk result ((given : ℕ) → drawing.old.number ≡ given + 1 →
             Makes C.Scheduler (heard_without W.Recorder) (C.policy self.old.scheduler) (load_event drawing.old ∷ [])
@@ -55,12 +52,10 @@ impl<'a, C: Scheduler + Drop, N: NodeNames, W: DepartureRecorder> Run<'a, C, N, 
             (stage_of self.old under.old (K.written sink.old) given
             (sight_of T.kind_of T.state_of watch.old)) self.new.scheduler under.new (K.written sink.new)) }
         ensures next { drawing.new ≡ load_next drawing.old }
-        ensures kept { Continues C.Scheduler self.old self.new }
+        ensures keeps { KeepsRun C.Scheduler W.Recorder K.Sink result self.old self.new sink.old
+            sink.new }
         ensures fewer { AreNoMore (sight_of T.kind_of T.state_of watch.old)
             (sight_of T.kind_of T.state_of watch.new) }
-        ensures kept_sink { KeepsSink K.written K.faults sink.old sink.new }
-        ensures cause { IfErr result (λ stop. HasSinkCause stop K.faults sink.old sink.new) }
-        ensures live { OnOk result (W.live self.new.recorder) }
     {
         match drawing.draw() {
             Some(packet) => self.make_arrival(under, sink, watch, &packet, &[]),
@@ -83,8 +78,7 @@ impl<'a, C: Scheduler + Drop, N: NodeNames, W: DepartureRecorder> Run<'a, C, N, 
         requires set { IsSet C.Scheduler W.Recorder N.policy self.old }
         requires stands { Stand C.Scheduler self.old under.old (CanBegin 0) }
         requires classes { HasLoadClasses (C.policy self.old.scheduler) }
-        requires pushes { C.pushes self.old.scheduler < 2 ^ 60 }
-        requires departures { C.departures self.old.scheduler < 2 ^ 60 }
+        requires room { HasRoomToBegin C.Scheduler self.old 0 }
         requires fresh { IsFresh self.old.tally }
         requires short { count ≤ most_load }
 
@@ -97,12 +91,10 @@ impl<'a, C: Scheduler + Drop, N: NodeNames, W: DepartureRecorder> Run<'a, C, N, 
             Stops C.Scheduler (heard_without W.Recorder) (C.policy self.old.scheduler) (load_events count (first_drawing seed))
             (stage_of self.old under.old (K.written sink.old) 0
             (sight_of T.kind_of T.state_of watch.old)) self.new.scheduler under.new (K.written sink.new)) }
-        ensures kept { Continues C.Scheduler self.old self.new }
+        ensures keeps { KeepsRun C.Scheduler W.Recorder K.Sink result self.old self.new sink.old
+            sink.new }
         ensures fewer { AreNoMore (sight_of T.kind_of T.state_of watch.old)
             (sight_of T.kind_of T.state_of watch.new) }
-        ensures kept_sink { KeepsSink K.written K.faults sink.old sink.new }
-        ensures cause { IfErr result (λ stop. HasSinkCause stop K.faults sink.old sink.new) }
-        ensures live { OnOk result (W.live self.new.recorder) }
     {
         let mut drawing = Drawing::new(seed);
         for _drawn in 0..count {
@@ -125,8 +117,7 @@ impl<'a, C: Scheduler + Drop, N: NodeNames, W: DepartureRecorder> Run<'a, C, N, 
         requires set { IsSet C.Scheduler W.Recorder N.policy self.old }
         requires stands { Stand C.Scheduler self.old under.old (CanBegin 0) }
         requires classes { HasLoadClasses (C.policy self.old.scheduler) }
-        requires pushes { C.pushes self.old.scheduler < 2 ^ 60 }
-        requires departures { C.departures self.old.scheduler < 2 ^ 60 }
+        requires room { HasRoomToBegin C.Scheduler self.old 0 }
         requires short { count ≤ most_load }
 
         ensures ok { IfOk result (λ t.
@@ -140,12 +131,10 @@ impl<'a, C: Scheduler + Drop, N: NodeNames, W: DepartureRecorder> Run<'a, C, N, 
             IsHeldBelow 1 s.held → StopsIn C.Scheduler (heard_without W.Recorder) (C.policy self.old.scheduler) 1
             (load_run (C.policy self.old.scheduler) seed count s) s
             self.old.scheduler under.old self.old.recorder (K.written sink.old) self.new.scheduler under.new (K.written sink.new))) }
-        ensures kept { Continues C.Scheduler self.old self.new }
+        ensures keeps { KeepsRun C.Scheduler W.Recorder K.Sink result self.old self.new sink.old
+            sink.new }
         ensures fewer { AreNoMore (sight_of T.kind_of T.state_of watch.old)
             (sight_of T.kind_of T.state_of watch.new) }
-        ensures kept_sink { KeepsSink K.written K.faults sink.old sink.new }
-        ensures cause { IfErr result (λ stop. HasSinkCause stop K.faults sink.old sink.new) }
-        ensures live { OnOk result (W.live self.new.recorder) }
     {
         let first = self.scheduler.held();
         self.tally = Tally::new();

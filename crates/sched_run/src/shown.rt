@@ -38,6 +38,9 @@ pub(crate) fn show_departure<T: Tap>(
     ensures fewer { AreNoMore (sight_of T.kind_of T.state_of watch.old)
         (sight_of T.kind_of T.state_of watch.new) }
 {
+    if watch.is_idle() {
+        return Ok(());
+    }
     match departed {
         Some(departed) => watch.departed(&departed),
         None => Ok(()),

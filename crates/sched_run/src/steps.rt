@@ -11,11 +11,9 @@ use sched_defs::{Ending, Packets};
 use tap_core::{Tap, Watching};
 
 impl<'a, C: Scheduler + Drop, N: NodeNames, W: DepartureRecorder> Run<'a, C, N, W> {
-    ghost use Rattle.std.specs.Prelude.{◌≡◌, ◌≤◌, ◌<◌, ◌+◌, ◌^◌, ℕ, replicate, None, IfErr, IfOk, IfNone, OnOk, OnErr};
-    ghost use Rattle.outside_core.specs.Kept.{KeepsSink, HasCause, HasSinkCause};
-    ghost use Rattle.sched_defs.specs.Packets.{most_packets};
+    ghost use Rattle.std.specs.Prelude.{◌≡◌, ◌≤◌, ◌<◌, ◌+◌, ◌^◌, ℕ, replicate, None, IfOk, IfNone, OnOk, OnErr};
     ghost use Rattle.sched_run.specs.Heard.{heard_anyway, heard};
-    ghost use Rattle.sched_run.specs.Frames.{IsSet, Continues, Stand, KeepsPackets, IsFurther};
+    ghost use Rattle.sched_run.specs.Frames.{IsSet, Stand, Feeds, KeepsRun, KeepsPlay, IsFurther};
     ghost use Rattle.events_core.specs.Script.{most_count};
     ghost use Rattle.sched_defs.specs.Events.{Depart};
     ghost use Rattle.sched_defs.specs.Script.{step_events};
@@ -46,12 +44,10 @@ impl<'a, C: Scheduler + Drop, N: NodeNames, W: DepartureRecorder> Run<'a, C, N, 
             (stage_of self.old under.old (K.written sink.old) given
             (sight_of T.kind_of T.state_of watch.old)) self.new.scheduler under.new (K.written sink.new)) }
         ensures came { self.new.tally.came ≡ self.old.tally.came }
-        ensures kept { Continues C.Scheduler self.old self.new }
+        ensures keeps { KeepsRun C.Scheduler W.Recorder K.Sink result self.old self.new sink.old
+            sink.new }
         ensures fewer { AreNoMore (sight_of T.kind_of T.state_of watch.old)
             (sight_of T.kind_of T.state_of watch.new) }
-        ensures kept_sink { KeepsSink K.written K.faults sink.old sink.new }
-        ensures cause { IfErr result (λ stop. HasSinkCause stop K.faults sink.old sink.new) }
-        ensures live { OnOk result (W.live self.new.recorder) }
     {
         for _made in 0..count {
             self.depart_next(under, sink, watch, None)?;
@@ -70,8 +66,7 @@ impl<'a, C: Scheduler + Drop, N: NodeNames, W: DepartureRecorder> Run<'a, C, N, 
         step: Step,
     ) -> Result<Option<Ending>, Stop>
         requires set { IsSet C.Scheduler W.Recorder N.policy self.old }
-        requires packets { P.policy packets.old ≡ C.policy self.old.scheduler }
-        requires ready { P.ready packets.old source.old }
+        requires feeds { Feeds C.Scheduler P.Packets self.old packets.old source.old }
         requires stands { Stand C.Scheduler self.old under.old
             (IsReady (P.given packets.old) self.old.tally) }
         requires counts { HasRoomFor C.Scheduler self.old (P.given packets.old) }
@@ -89,18 +84,11 @@ impl<'a, C: Scheduler + Drop, N: NodeNames, W: DepartureRecorder> Run<'a, C, N, 
             (λ l s. step_events (step_of step) l.packets s) (P.left packets.old source.old)
             (stage_of self.old under.old (K.written sink.old) (P.given packets.old)
             (sight_of T.kind_of T.state_of watch.old)) self.new.scheduler under.new (K.written sink.new)) }
-        ensures kept { Continues C.Scheduler self.old self.new }
-        ensures fewer { AreNoMore (sight_of T.kind_of T.state_of watch.old)
-            (sight_of T.kind_of T.state_of watch.new) }
-        ensures kept_sink { KeepsSink K.written K.faults sink.old sink.new }
-        ensures kept_packets { KeepsPackets P.Packets packets.old packets.new source.old
-            source.new }
-        ensures cause { IfErr result (λ stop. HasCause stop P.faults source.old source.new K.faults
-            sink.old sink.new) }
+        ensures keeps { KeepsPlay C.Scheduler W.Recorder P.Packets K.Sink result self.old self.new
+            packets.old packets.new source.old source.new sink.old sink.new
+            (sight_of T.kind_of T.state_of watch.old) (sight_of T.kind_of T.state_of watch.new) }
         ensures further { IfOk result (λ e. IfNone e (
             IsFurther P.Packets packets.old packets.new source.old source.new self.old.tally self.new.tally)) }
-        ensures came { self.new.tally.came ≤ most_packets }
-        ensures live { OnOk result (W.live self.new.recorder) }
     {
         match step {
             Step::Arrive(count) => self.arrive_some(under, sink, watch, packets, source, count),

@@ -78,7 +78,7 @@ impl Tally {
             popped,
             empty: self.asked - popped,
             held,
-            dropped: (version == 2).then_some(self.dropped),
+            dropped: (version >= 2).then_some(self.dropped),
         }
     }
 }

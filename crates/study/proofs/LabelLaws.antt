@@ -105,6 +105,7 @@ held_label (n, statement.Each t s) ls = refl
 held_label (n, statement.Push t s) ls = refl
 held_label (n, statement.Pop t s) ls = refl
 held_label (n, statement.Class t a cs) ls = refl
+held_label (n, statement.Filter t a ts) ls = refl
 held_label (n, statement.Leaf t u a m ns) ls = refl
 held_label (n, statement.Node t u a ns) ls = refl
 

@@ -1,4 +1,5 @@
 -- Runs that are summed up.
+use Rattle.policy_text_defs.specs.declared.edition.Edition.{Edition}
 use Rattle.study.proofs.Prelude.{ap, ◌∙◌, ◌≡◌, refl, List, inl, ℕ, Option, None, Some, sym, ◌∷◌, [], inr, subst, ◌++◌, arith, length, ◌≤◌, ◌⊎◌, Err, Ok, Result, IfOk, IfSome, OnErr, OnOk, codes, IsTrue, Vec, appended_nothing, prefix_of_nothing, Appended, AppendedPrefix, Stop, IsAccepted, number_at, Node, AreClassesOf, Declared, classes_in, pace_ends, same_status, IsTold, Answer, text_alone, IsPolicy, Judged, ending_status, run_status, status_code, IsOneOf, pace_statuses, Status, LateStart, RunAnswer, paced_answer, Event, Outcome, outcomes, CanMake, Pace, Captured, start, Ending, CanEndSo, Label, Tree, leaf_index, class_labels, leaf_table, all_leaf_labels, HasRecordedPart, IsPartOf, IsRefusedRun, IsWholeRun, IsToldOr, ending_line, AreRunSums, AreSumsWritten, HasNames, IsSummed, IsTextOf, LacksRoom, render, sum_rate, summed, Form, Json, Text}
 use Rattle.std.proofs.lemmas.List.{length-map}
 use Rattle.std.specs.declared.alloc.Global.{Global}
@@ -37,8 +38,8 @@ as_many entries tree [] (c ∷ cs) are = absurd are
 as_many entries tree (d ∷ ds) [] are = absurd are
 as_many entries tree (d ∷ ds) (c ∷ cs) are = let rest = as_many entries tree ds cs are.2 in omega (arith, rest)
 
-pub named_classes : (text : List ℕ) (j : Judged) → IsPolicy text j → HasNames j
-named_classes text j is =
+pub named_classes : (latest : Edition) (text : List ℕ) (j : Judged) → IsPolicy latest text j → HasNames j
+named_classes latest text j is =
     let many : length (classes_in j.entries) ≡ length j.policy.policy.classes = as_many j.entries j.policy.policy.tree (classes_in j.entries) j.policy.policy.classes is.gives.classes in
     omega (arith, many, length-map (classes_in j.entries) (λ d. let l : Label = record { name = d.name; weight = d.marks.weight } in l))
 

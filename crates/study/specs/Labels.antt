@@ -61,6 +61,7 @@ class_labels es = map (λ d. record { name = d.name; weight = d.marks.weight }) 
 -- the same from parsed statements
 abbrev pub class_label : Statement → List Label
 class_label (statement.Class name attrs conditions) = record { name = name; weight = unwrap_or attrs.weight 1 } ∷ []
+class_label (statement.Filter name attrs tests) = record { name = name; weight = unwrap_or attrs.weight 1 } ∷ []
 class_label s = []
 
 abbrev pub held_labels : List Numbered → List Label

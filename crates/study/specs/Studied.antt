@@ -72,7 +72,7 @@ IsDriven (Forward rate) view laid judged capture contents = λ a. a ≡ departur
 -- capture, which is part of the run.
 abbrev pub IsStudied : Study → (List ℕ → List ℕ) → Answer → Type 0
 IsStudied s contents =
-    UnderPolicy (contents s.policy.now) (λ judged.
+    UnderPolicy s.latest (contents s.policy.now) (λ judged.
     InTarget (target_of s) (topology_of judged.policy.policy.tree) contents (λ laid.
     IsDriven s.drive s.view laid judged (contents s.capture.now) contents))
 

@@ -72,12 +72,15 @@ fn put_class(
 ) -> Result<(), AllocError>
     ensures { OnOk result (labels.new.items ≡ labels.old.items ++ class_label statement.now) }
 {
-    if let Statement::Class(name, attrs, _) = statement {
-        let name = Name::new(alloc, name.as_str())?;
-        let weight = attrs.weight.unwrap_or(1);
-        labels.push(Label { name, weight })?;
+    match statement {
+        Statement::Class(name, attrs, _) | Statement::Filter(name, attrs, _) => {
+            let name = Name::new(alloc, name.as_str())?;
+            let weight = attrs.weight.unwrap_or(1);
+            labels.push(Label { name, weight })?;
+            Ok(())
+        }
+        _ => Ok(()),
     }
-    Ok(())
 }
 
 /// Returns the labels of a policy's classes, in the order of its text.

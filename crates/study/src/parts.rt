@@ -1,4 +1,5 @@
 //! The parts of a study: its files, what paces it, and how its outcomes are written.
+use policy_text::Edition;
 use sched_defs::LinkRate;
 use size_core::{Limits, Widths};
 
@@ -43,6 +44,8 @@ pub enum Drive<'a> {
 /// A run over a capture, with the names of its files.
 #[derive(Clone, Copy, Debug)]
 pub struct Study<'a> {
+    /// The policy is read up to this edition.
+    pub latest: Edition,
     pub policy: &'a str,
     /// The target into which the policy's tree is embedded. Without a target, the packets go
     /// through the policy's own tree of queues.

@@ -224,7 +224,7 @@ pub fn study_inputs<S: Shelf, K: Sink, F: Fabric>(
     ensures causes { HasCauses result (S.faults shelf.old) (S.faults shelf.new) (K.faults sink.old)
         (K.faults sink.new) }
 {
-    match read_policy(alloc, shelf, study.policy)? {
+    match read_policy(alloc, study.latest, shelf, study.policy)? {
         Read::Accepted(judged) => study_policy(alloc, &judged, study, shelf, sink, fabric),
         Read::Refused(refusal) => refuse(alloc, sink, FaultKind::Policy, refusal),
     }

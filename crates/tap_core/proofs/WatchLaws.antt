@@ -1,5 +1,5 @@
 -- Taps that observe several events in sequence.
-use Rattle.tap_core.proofs.Prelude.{◌≡◌, ◌∙◌, ap, refl, sym, ◌++◌, List, ℕ, [], ◌∷◌, map, subst, Err, Ok, Result, OnOk, entries, Entry, left_after_one, Shown, Slot, Tracks, entry, stepped, entry_after, left_after, step, state_after, TapKind}
+use Rattle.tap_core.proofs.Prelude.{◌≡◌, ◌∙◌, ap, refl, sym, ◌++◌, List, ℕ, [], ◌∷◌, map, subst, Err, Ok, Result, OnOk, arith, length, entries, Entry, left_after_one, Shown, Slot, Tracks, entry, stepped, entry_after, left_after, step, state_after, TapKind}
 use Rattle.tap_core.specs.declared.watch.Named.{Named}
 use Rattle.tap_core.specs.Watching.{Sight, Begins, Shows, Watches}
 use Rattle.tap_core.proofs.Entries.{left_after-none, left_after-cons}
@@ -93,3 +93,22 @@ module _ {T : Type 0} (kind_of : T → TapKind) (state_of : T → List ℕ) wher
   shows_one_on_ok (Ok _) d n s s' ss ss' t t' ts ts' s-is s'-is t-is t'-is left tracked =
       shows_one d n s s' ss ss' t t' ts ts' s-is s'-is t-is t'-is left tracked
   shows_one_on_ok (Err _) d n s s' ss ss' t t' ts ts' s-is s'-is t-is t'-is left tracked = tt
+
+left_idle : (xs : List Shown) (all taps : List Entry) → Tracks all [] taps → taps ≡ left_after xs taps
+left_idle xs [] [] start = refl
+left_idle xs [] (t ∷ taps) start = absurd start
+left_idle xs (e ∷ all) taps start = absurd start
+
+tracked_idle : (xs : List Shown) (all taps : List Entry) → Tracks all [] taps → Tracks (map (entry_after xs) all) [] taps
+tracked_idle xs [] taps start = start
+tracked_idle xs (e ∷ all) taps start = absurd start
+
+-- without slots, no tap is left that could observe anything
+pub shows_idle : (xs : List Shown) (named : Named) (slots : List Slot) (taps : List Entry) → length slots ≡ 0
+    → Shows xs (record { named = named; slots = slots; taps = taps }) (record { named = named; slots = slots; taps = taps })
+shows_idle xs named [] taps none = record {
+  named = refl;
+  left = λ all start. left_idle xs all taps start;
+  tracked = λ all start. tracked_idle xs all taps start;
+}
+shows_idle xs named (s ∷ slots) taps none = absurd (omega (arith, none))

@@ -1,10 +1,10 @@
 -- The token at the start of some bytes is the longest prefix that is a token.
-use Rattle.text_core.proofs.Prelude.{length, ◌≡◌, arith, ◌+◌, List, [], ap, drop, sym, ◌∷◌, subst, take, ◌∙◌, ◌≤◌, Some, refl, ℕ, true, ◌<◌, None, suc, Bool, cond, false, Option, option_map, zero, ◌&&◌, ◌||◌, ◌↔◌, eqb-true, prefix_len-le-length, prefix_len, list_all, if◌then◌else◌, ◌==◌, all_ascii_digits, is_numeral, mark_text, begun, token_at, is_digit, is_word_byte, begins_word, is_double_mark, is_word_start, number_at, single_mark, is_mark, mark_length, Mark, TokenKind}
+use Rattle.text_core.proofs.Prelude.{length, ◌≡◌, arith, ◌+◌, List, [], ap, drop, sym, ◌∷◌, subst, take, ◌∙◌, ◌≤◌, Some, refl, ℕ, true, ◌<◌, None, suc, Bool, cond, false, Option, option_map, zero, ◌&&◌, ◌||◌, ◌↔◌, eqb-true, prefix_len-le-length, prefix_len, list_all, if◌then◌else◌, ◌==◌, all_ascii_digits, is_numeral, mark_text, is_classic, begun, token_at, is_digit, is_word_byte, begins_word, is_double_mark, is_word_start, number_at, single_mark, is_mark, mark_length, Mark, TokenKind, Classic}
 use Rattle.text_core.specs.declared.token.TokenKind.TheVariants as k
 use Rattle.text_core.specs.declared.mark.Mark.TheVariants as m
 use Rattle.text_core.specs.Laws.{IsToken, BeginsWith, LongestTokenIsTaken}
 use Rattle.text_core.proofs.LineLaws.{length-take-le}
-use Rattle.text_core.proofs.TextLaws.{both_left, both_right, digit_apart}
+use Rattle.text_core.proofs.TextLaws.{both_left, both_right, digit_apart, digits_are}
 use Rattle.text_core.proofs.TokenLaws.{same_kind, same_length}
 
 -- ---- runs
@@ -17,12 +17,12 @@ pass-step p b bs true e rest =
     subst (λ n. list_all p (take n (b ∷ bs)) ≡ true) one here
 
 -- each byte of a run passes the test
-run_passes : (p : ℕ → Bool) (bs : List ℕ) → list_all p (take (prefix_len p bs) bs) ≡ true
+pub run_passes : (p : ℕ → Bool) (bs : List ℕ) → list_all p (take (prefix_len p bs) bs) ≡ true
 run_passes p [] = refl
 run_passes p (b ∷ bs) = pass-step p b bs (p b) refl (run_passes p bs)
 
 -- and no longer prefix passes
-run_longest : (p : ℕ → Bool) (bs : List ℕ) (n : ℕ) → n ≤ length bs → list_all p (take n bs) ≡ true → n ≤ prefix_len p bs
+pub run_longest : (p : ℕ → Bool) (bs : List ℕ) (n : ℕ) → n ≤ length bs → list_all p (take n bs) ≡ true → n ≤ prefix_len p bs
 run_longest p bs zero fits all = omega arith
 run_longest p [] (suc n) fits all = absurd (omega arith)
 run_longest p (b ∷ bs) (suc n) fits all =
@@ -30,25 +30,23 @@ run_longest p (b ∷ bs) (suc n) fits all =
     let rest = run_longest p bs n (omega arith) (both_right (p b) (list_all p (take n bs)) all) in
     rw first (omega arith)
 
-digits_are : (bs : List ℕ) → all_ascii_digits bs ≡ list_all is_digit bs
-digits_are [] = refl
-digits_are (b ∷ bs) = ap (λ v. is_digit b && v) (digits_are bs)
-
 -- ---- marks
 
 pub record IsByteMark (b : ℕ) : Type 0 where
   pub mark : Mark
   pub text : b ∷ [] ≡ mark_text mark
+  pub classic : is_classic mark ≡ true
 
 pub record IsPairMark (b c : ℕ) : Type 0 where
   pub mark : Mark
   pub text : b ∷ c ∷ [] ≡ mark_text mark
+  pub classic : is_classic mark ≡ true
 
-byte_is : (b c : ℕ) (mark : Mark) → c ∷ [] ≡ mark_text mark → b == c ≡ true → IsByteMark b
-byte_is b c mark text e = record { mark = mark; text = ap (λ x. x ∷ []) (eqb-true b c e) ∙ text }
+byte_is : (b c : ℕ) (mark : Mark) → c ∷ [] ≡ mark_text mark → is_classic mark ≡ true → b == c ≡ true → IsByteMark b
+byte_is b c mark text classic e = record { mark = mark; text = ap (λ x. x ∷ []) (eqb-true b c e) ∙ text; classic = classic }
 
-pair_is : (b c x y : ℕ) (mark : Mark) → x ∷ y ∷ [] ≡ mark_text mark → b == x ≡ true → c == y ≡ true → IsPairMark b c
-pair_is b c x y mark text e f = record { mark = mark; text = ap (λ l. l ∷ c ∷ []) (eqb-true b x e) ∙ ap (λ l. x ∷ l ∷ []) (eqb-true c y f) ∙ text }
+pair_is : (b c x y : ℕ) (mark : Mark) → x ∷ y ∷ [] ≡ mark_text mark → is_classic mark ≡ true → b == x ≡ true → c == y ≡ true → IsPairMark b c
+pair_is b c x y mark text classic e f = record { mark = mark; text = ap (λ l. l ∷ c ∷ []) (eqb-true b x e) ∙ ap (λ l. x ∷ l ∷ []) (eqb-true c y f) ∙ text; classic = classic }
 
 either : {A : Type 0} (u v : Bool) → u || v ≡ true → (u ≡ true → A) → (v ≡ true → A) → A
 either true v e f g = f refl
@@ -56,31 +54,31 @@ either false v e f g = g e
 
 byte_mark : (b : ℕ) → is_mark b ≡ true → IsByteMark b
 byte_mark b e =
-    either _ _ e (λ e. either _ _ e (λ e. either _ _ e (λ e. either _ _ e (λ e. either _ _ e (λ e. either _ _ e (λ e. either _ _ e (λ e. either _ _ e (λ e. either _ _ e (λ e. either _ _ e (byte_is b 46 m.Dot refl)
-    (byte_is b 47 m.Slash refl))
-    (byte_is b 43 m.Plus refl))
-    (byte_is b 45 m.Minus refl))
-    (byte_is b 42 m.Star refl))
-    (byte_is b 40 m.Open refl))
-    (byte_is b 41 m.Close refl))
-    (byte_is b 44 m.Comma refl))
-    (byte_is b 61 m.Is refl))
-    (byte_is b 60 m.Less refl))
-    (byte_is b 62 m.More refl)
+    either _ _ e (λ e. either _ _ e (λ e. either _ _ e (λ e. either _ _ e (λ e. either _ _ e (λ e. either _ _ e (λ e. either _ _ e (λ e. either _ _ e (λ e. either _ _ e (λ e. either _ _ e (byte_is b 46 m.Dot refl refl)
+    (byte_is b 47 m.Slash refl refl))
+    (byte_is b 43 m.Plus refl refl))
+    (byte_is b 45 m.Minus refl refl))
+    (byte_is b 42 m.Star refl refl))
+    (byte_is b 40 m.Open refl refl))
+    (byte_is b 41 m.Close refl refl))
+    (byte_is b 44 m.Comma refl refl))
+    (byte_is b 61 m.Is refl refl))
+    (byte_is b 60 m.Less refl refl))
+    (byte_is b 62 m.More refl refl)
 
 before_equal : (b : ℕ) → b == 61 || b == 33 || b == 60 || b == 62 ≡ true → (c : ℕ) → c == 61 ≡ true → IsPairMark b c
 before_equal b e c f =
-    either _ _ e (λ e. either _ _ e (λ e. either _ _ e (λ e. pair_is b c 61 61 m.Equal refl e f)
-    (λ e. pair_is b c 33 61 m.NotEqual refl e f))
-    (λ e. pair_is b c 60 61 m.LessEq refl e f))
-    (λ e. pair_is b c 62 61 m.MoreEq refl e f)
+    either _ _ e (λ e. either _ _ e (λ e. either _ _ e (λ e. pair_is b c 61 61 m.Equal refl refl e f)
+    (λ e. pair_is b c 33 61 m.NotEqual refl refl e f))
+    (λ e. pair_is b c 60 61 m.LessEq refl refl e f))
+    (λ e. pair_is b c 62 61 m.MoreEq refl refl e f)
 
 abbrev before : ℕ → Bool
 before b = b == 61 || b == 33 || b == 60 || b == 62
 
 pair_mark : (b c : ℕ) → is_double_mark b c ≡ true → IsPairMark b c
 pair_mark b c e = either (b == 46 && c == 46) (before b && c == 61) e
-    (λ e. pair_is b c 46 46 m.DotDot refl (both_left (b == 46) (c == 46) e) (both_right (b == 46) (c == 46) e))
+    (λ e. pair_is b c 46 46 m.DotDot refl refl (both_left (b == 46) (c == 46) e) (both_right (b == 46) (c == 46) e))
     (λ e. before_equal b (both_left (before b) (c == 61) e) c (both_right (before b) (c == 61) e))
 
 -- a mark of this length begins the bytes
@@ -88,28 +86,29 @@ pub record HasMark (bs : List ℕ) (n : ℕ) : Type 0 where
   pub inside : n ≤ length bs
   pub mark : Mark
   pub text : take n bs ≡ mark_text mark
+  pub classic : is_classic mark ≡ true
 
 byte_has : (b : ℕ) (bs : List ℕ) (n : ℕ) (v : Bool) → is_mark b ≡ v → (if v then Some 1 else None) ≡ Some n → HasMark (b ∷ bs) n
 byte_has b bs n true e one =
     let same : 1 ≡ n = cc in
     let byte = byte_mark b e in
-    subst (HasMark (b ∷ bs)) same (record { inside = omega arith; mark = byte.mark; text = byte.text })
+    subst (HasMark (b ∷ bs)) same (record { inside = omega arith; mark = byte.mark; text = byte.text; classic = byte.classic })
 byte_has b bs n false e one = absurd cc
 
 pair_has : (b c : ℕ) (bs : List ℕ) (n : ℕ) (v : Bool) → is_double_mark b c ≡ v → (if v then Some 2 else single_mark b) ≡ Some n → HasMark (b ∷ c ∷ bs) n
 pair_has b c bs n true e two =
     let same : 2 ≡ n = cc in
     let pair = pair_mark b c e in
-    subst (HasMark (b ∷ c ∷ bs)) same (record { inside = omega arith; mark = pair.mark; text = pair.text })
+    subst (HasMark (b ∷ c ∷ bs)) same (record { inside = omega arith; mark = pair.mark; text = pair.text; classic = pair.classic })
 pair_has b c bs n false e one = byte_has b (c ∷ bs) n (is_mark b) refl one
 
-mark_has : (bs : List ℕ) (n : ℕ) → mark_length bs ≡ Some n → HasMark bs n
+pub mark_has : (bs : List ℕ) (n : ℕ) → mark_length bs ≡ Some n → HasMark bs n
 mark_has [] n e = absurd cc
 mark_has (b ∷ []) n e = byte_has b [] n (is_mark b) refl e
 mark_has (b ∷ c ∷ bs) n e = pair_has b c bs n (is_double_mark b c) refl e
 
 -- there is a length, and it is at least m
-abbrev AtLeast : ℕ → Option ℕ → Type 0
+abbrev pub AtLeast : ℕ → Option ℕ → Type 0
 AtLeast m None = ⊥
 AtLeast m (Some n) = m ≤ n
 
@@ -123,7 +122,7 @@ least-of : (v : Bool) (one : Option ℕ) → one ≡ Some 1 → AtLeast 1 (if v 
 least-of true one e = omega arith
 least-of false one e = rw e (omega arith)
 
-single_least : (c : ℕ) (bs : List ℕ) → single_mark c ≡ Some 1 → AtLeast 1 (mark_length (c ∷ bs))
+pub single_least : (c : ℕ) (bs : List ℕ) → single_mark c ≡ Some 1 → AtLeast 1 (mark_length (c ∷ bs))
 single_least c [] one = least-of false (single_mark c) one
 single_least c (x ∷ xs) one = least-of (is_double_mark c x) (single_mark c) one
 
@@ -151,25 +150,27 @@ double_first c d b (x ∷ xs) m start digit two text fits =
     let here : AtLeast 2 (mark_length (c ∷ x ∷ xs)) = subst (λ y. AtLeast 2 (mark_length (c ∷ y ∷ xs))) second within in
     subst (λ y. MarkFirst y (x ∷ xs) m) first (record { start = start; digit = digit; within = subst (λ n. AtLeast (suc n) (mark_length (c ∷ x ∷ xs))) (sym one) here })
 
-mark_first : (mark : Mark) (b : ℕ) (bs : List ℕ) (m : ℕ) → b ∷ take m bs ≡ mark_text mark → m ≤ length bs → MarkFirst b bs m
-mark_first m.Dot b bs m text fits = single_first 46 b bs m refl refl refl text fits
-mark_first m.Slash b bs m text fits = single_first 47 b bs m refl refl refl text fits
-mark_first m.Plus b bs m text fits = single_first 43 b bs m refl refl refl text fits
-mark_first m.Minus b bs m text fits = single_first 45 b bs m refl refl refl text fits
-mark_first m.Star b bs m text fits = single_first 42 b bs m refl refl refl text fits
-mark_first m.Open b bs m text fits = single_first 40 b bs m refl refl refl text fits
-mark_first m.Close b bs m text fits = single_first 41 b bs m refl refl refl text fits
-mark_first m.Comma b bs m text fits = single_first 44 b bs m refl refl refl text fits
-mark_first m.Is b bs m text fits = single_first 61 b bs m refl refl refl text fits
-mark_first m.Less b bs m text fits = single_first 60 b bs m refl refl refl text fits
-mark_first m.More b bs m text fits = single_first 62 b bs m refl refl refl text fits
-mark_first m.DotDot b bs m text fits = double_first 46 46 b bs m refl refl refl text fits
-mark_first m.Equal b bs m text fits = double_first 61 61 b bs m refl refl refl text fits
-mark_first m.NotEqual b bs m text fits = double_first 33 61 b bs m refl refl refl text fits
-mark_first m.LessEq b bs m text fits = double_first 60 61 b bs m refl refl refl text fits
-mark_first m.MoreEq b bs m text fits = double_first 62 61 b bs m refl refl refl text fits
+pub mark_first : (mark : Mark) (b : ℕ) (bs : List ℕ) (m : ℕ) → b ∷ take m bs ≡ mark_text mark → is_classic mark ≡ true → m ≤ length bs → MarkFirst b bs m
+mark_first m.Dot b bs m text classic fits = single_first 46 b bs m refl refl refl text fits
+mark_first m.Slash b bs m text classic fits = single_first 47 b bs m refl refl refl text fits
+mark_first m.Plus b bs m text classic fits = single_first 43 b bs m refl refl refl text fits
+mark_first m.Minus b bs m text classic fits = single_first 45 b bs m refl refl refl text fits
+mark_first m.Star b bs m text classic fits = single_first 42 b bs m refl refl refl text fits
+mark_first m.Open b bs m text classic fits = single_first 40 b bs m refl refl refl text fits
+mark_first m.Close b bs m text classic fits = single_first 41 b bs m refl refl refl text fits
+mark_first m.Comma b bs m text classic fits = single_first 44 b bs m refl refl refl text fits
+mark_first m.Is b bs m text classic fits = single_first 61 b bs m refl refl refl text fits
+mark_first m.Less b bs m text classic fits = single_first 60 b bs m refl refl refl text fits
+mark_first m.More b bs m text classic fits = single_first 62 b bs m refl refl refl text fits
+mark_first m.DotDot b bs m text classic fits = double_first 46 46 b bs m refl refl refl text fits
+mark_first m.Equal b bs m text classic fits = double_first 61 61 b bs m refl refl refl text fits
+mark_first m.NotEqual b bs m text classic fits = double_first 33 61 b bs m refl refl refl text fits
+mark_first m.LessEq b bs m text classic fits = double_first 60 61 b bs m refl refl refl text fits
+mark_first m.MoreEq b bs m text classic fits = double_first 62 61 b bs m refl refl refl text fits
+mark_first m.OpenBrace b bs m text classic fits = absurd cc
+mark_first m.CloseBrace b bs m text classic fits = absurd cc
 
-mark_some : (mark : Mark) → [] ≡ mark_text mark → ⊥
+pub mark_some : (mark : Mark) → [] ≡ mark_text mark → ⊥
 mark_some m.Dot e = cc
 mark_some m.Slash e = cc
 mark_some m.Plus e = cc
@@ -186,6 +187,8 @@ mark_some m.Equal e = cc
 mark_some m.NotEqual e = cc
 mark_some m.LessEq e = cc
 mark_some m.MoreEq e = cc
+mark_some m.OpenBrace e = cc
+mark_some m.CloseBrace e = cc
 
 -- ---- prefixes
 
@@ -200,7 +203,7 @@ pub record Front (bs : List ℕ) (kind : TokenKind) (n : ℕ) : Type 0 where
   pub token : IsToken kind (take n bs)
   pub longest : (other : TokenKind) (m : ℕ) → m ≤ length bs → IsToken other (take m bs) → (m ≤ n) × (other ≡ kind)
 
-run_some : (p : ℕ → Bool) (b : ℕ) (bs : List ℕ) → p b ≡ true → 0 < prefix_len p (b ∷ bs)
+pub run_some : (p : ℕ → Bool) (b : ℕ) (bs : List ℕ) → p b ≡ true → 0 < prefix_len p (b ∷ bs)
 run_some p b bs first = rw first (omega arith)
 
 begins_front : (n b : ℕ) (bs : List ℕ) → 0 < n → is_word_start b ≡ true → begins_word (take n (b ∷ bs)) ≡ true
@@ -227,7 +230,7 @@ word_longest b bs start k.Number (suc m) fits token =
     absurd cc
 word_longest b bs start k.Mark zero fits token = absurd (token_some k.Mark token)
 word_longest b bs start k.Mark (suc m) fits token =
-    let apart = (mark_first token.0 b bs m token.1 (omega arith)).start in
+    let apart = (mark_first token.0 b bs m token.1 token.2 (omega arith)).start in
     absurd cc
 
 word_front : (b : ℕ) (bs : List ℕ) → is_word_start b ≡ true → Front (b ∷ bs) k.Word (prefix_len is_word_byte (b ∷ bs))
@@ -246,7 +249,7 @@ number_longest b bs start digit k.Number m fits token =
     (run_longest is_digit (b ∷ bs) m fits (sym (digits_are (take m (b ∷ bs))) ∙ numeral_digits (take m (b ∷ bs)) token), refl)
 number_longest b bs start digit k.Mark zero fits token = absurd (token_some k.Mark token)
 number_longest b bs start digit k.Mark (suc m) fits token =
-    let apart = (mark_first token.0 b bs m token.1 (omega arith)).digit in
+    let apart = (mark_first token.0 b bs m token.1 token.2 (omega arith)).digit in
     absurd cc
 
 number_front : (b : ℕ) (bs : List ℕ) → is_word_start b ≡ false → is_digit b ≡ true → Front (b ∷ bs) k.Number (prefix_len is_digit (b ∷ bs))
@@ -267,14 +270,14 @@ other_front b bs start digit k.Number (suc m) fits token =
     let first = both_left (is_digit b) (all_ascii_digits (take m bs)) token in
     absurd cc
 other_front b bs start digit k.Mark zero fits token = absurd (token_some k.Mark token)
-other_front b bs start digit k.Mark (suc m) fits token = ((mark_first token.0 b bs m token.1 (omega arith)).within, refl)
+other_front b bs start digit k.Mark (suc m) fits token = ((mark_first token.0 b bs m token.1 token.2 (omega arith)).within, refl)
 
 mark_front : (b : ℕ) (bs : List ℕ) (n : ℕ) → is_word_start b ≡ false → is_digit b ≡ false → mark_length (b ∷ bs) ≡ Some n → Front (b ∷ bs) k.Mark n
 mark_front b bs n start digit e =
     let mark = mark_has (b ∷ bs) n e in
     record {
       inside = mark.inside;
-      token = (mark.mark, mark.text);
+      token = (mark.mark, mark.text, mark.classic);
       longest = λ other m fits token.
           let found = other_front b bs start digit other m fits token in
           (subst (AtLeast m) e found.0, found.1);
@@ -285,7 +288,7 @@ mark_front b bs n start digit e =
 abbrev Law : List ℕ → TokenKind → ℕ → Type 0
 Law bytes kind n = (token_at bytes ≡ Some (begun kind n)) ↔ BeginsWith bytes kind n
 
-le_same : (n l : ℕ) → n ≤ l → (n < l → ⊥) → n ≡ l
+pub le_same : (n l : ℕ) → n ≤ l → (n < l → ⊥) → n ≡ l
 le_same zero zero le less = refl
 le_same zero (suc l) le less = absurd (less (omega arith))
 le_same (suc n) zero le less = absurd (omega arith)
@@ -305,8 +308,8 @@ by_front bs kind other n l at front apart =
       apart = apart;
     } in (
       λ e.
-          let kinds : other ≡ kind = same_kind bs (begun other l) (begun kind n) at e in
-          let lengths : l ≡ n = same_length bs (begun other l) (begun kind n) at e in
+          let kinds : other ≡ kind = same_kind Classic bs (begun other l) (begun kind n) at e in
+          let lengths : l ≡ n = same_length Classic bs (begun other l) (begun kind n) at e in
           subst (λ x. BeginsWith bs x n) kinds (subst (BeginsWith bs other) lengths taken),
       λ begins.
           let same = front_length bs kind other n l front begins in

@@ -3,6 +3,7 @@ pub mod DecimalLemmas
 pub mod FrontLaws
 pub mod LineLaws
 pub mod LineLemmas
+pub mod RunLaws
 pub mod SaysLaws
 pub mod TextLaws
 pub mod TokenLaws

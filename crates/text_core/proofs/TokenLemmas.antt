@@ -1,5 +1,5 @@
 -- The extent of the longest token, and one more token after others.
-use Rattle.text_core.proofs.Prelude.{length, ◌≡◌, arith, ◌+◌, List, [], ap, drop, sym, ◌∷◌, subst, take, ◌≤◌, Some, refl, ℕ, ◌-◌, true, ◌++◌, ◌<◌, Bool, cond, false, get_or, length-drop, inl, ◌||◌, inr, ◌⊎◌, take_all, prefix_len, Stand, begun, token_at, after_blanks, Token, TokenKind}
+use Rattle.text_core.proofs.Prelude.{length, ◌≡◌, arith, ◌+◌, List, [], ap, drop, sym, ◌∷◌, subst, take, ◌≤◌, Some, refl, ℕ, ◌-◌, true, ◌++◌, ◌<◌, Bool, cond, false, get_or, length-drop, inl, ◌||◌, inr, ◌⊎◌, take_all, prefix_len, StandIn, begun, token_in, is_run_start, is_run_byte, after_blanks, Token, TokenKind, Dialect}
 
 -- the token has at least one byte, and lies in the bytes
 pub record Fits (n : ℕ) (bs : List ℕ) : Type 0 where
@@ -24,9 +24,12 @@ pub either : (a b : Bool) → true ≡ a → a || b ≡ true
 either a b e = ap (λ v. v || b) (sym e)
 
 -- one more token follows the others
-pub Stand-push : (line : List ℕ) (from : ℕ) (ts : List Token) (k : TokenKind) (at n : ℕ) → Stand line from ts at → token_at (drop at line) ≡ Some (begun k n) → 0 < n → at + n ≤ length line → Stand line from (ts ++ record { kind = k; start = at; end = at + n } ∷ []) (after_blanks line (at + n))
-Stand-push line from [] k at n stand token some inside =
+pub Stand-push : (d : Dialect) (line : List ℕ) (from : ℕ) (ts : List Token) (k : TokenKind) (at n : ℕ) → StandIn d line from ts at → token_in d (drop at line) ≡ Some (begun k n) → 0 < n → at + n ≤ length line → StandIn d line from (ts ++ record { kind = k; start = at; end = at + n } ∷ []) (after_blanks line (at + n))
+Stand-push d line from [] k at n stand token some inside =
     let same : n ≡ at + n - at = omega arith in
-    (stand, omega arith, inside, subst (λ m. token_at (drop at line) ≡ Some (begun k m)) same token, refl)
-Stand-push line from (t ∷ ts) k at n stand token some inside =
-    (stand.0, stand.1, stand.2, stand.3, Stand-push line t.end ts k at n stand.4 token some inside)
+    (stand, omega arith, inside, subst (λ m. token_in d (drop at line) ≡ Some (begun k m)) same token, refl)
+Stand-push d line from (t ∷ ts) k at n stand token some inside =
+    (stand.0, stand.1, stand.2, stand.3, Stand-push d line t.end ts k at n stand.4 token some inside)
+
+pub run_byte : (b : ℕ) → is_run_start b ≡ true → is_run_byte b ≡ true
+run_byte b start = rw start refl

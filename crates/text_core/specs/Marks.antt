@@ -1,5 +1,5 @@
 -- The marks of the language and their bytes.
-use Rattle.std.specs.Prelude.{◌≡◌, refl, ℕ, Bool, List, [], ◌∷◌, map, Option, Some, None, if◌then◌else◌, codes}
+use Rattle.std.specs.Prelude.{◌≡◌, refl, ℕ, Bool, true, false, List, [], ◌∷◌, map, Option, Some, None, if◌then◌else◌, codes}
 use Rattle.std.specs.Str.{bytes_eq}
 use Rattle.text_core.specs.declared.mark.Mark.{Mark}
 use Rattle.text_core.specs.declared.mark.Mark.TheVariants as m
@@ -22,6 +22,14 @@ mark_text m.Less = codes "<"
 mark_text m.LessEq = codes "<="
 mark_text m.More = codes ">"
 mark_text m.MoreEq = codes ">="
+mark_text m.OpenBrace = codes "{"
+mark_text m.CloseBrace = codes "}"
+
+-- the mark isn't a brace
+abbrev pub is_classic : Mark → Bool
+is_classic m.OpenBrace = false
+is_classic m.CloseBrace = false
+is_classic _ = true
 
 abbrev pub is_mark_text : List ℕ → Mark → Bool
 is_mark_text w m = bytes_eq w (mark_text m)
@@ -45,12 +53,14 @@ mark_of w =
     else (if is_mark_text w m.LessEq then Some m.LessEq
     else (if is_mark_text w m.More then Some m.More
     else (if is_mark_text w m.MoreEq then Some m.MoreEq
-    else None)))))))))))))))
+    else (if is_mark_text w m.OpenBrace then Some m.OpenBrace
+    else (if is_mark_text w m.CloseBrace then Some m.CloseBrace
+    else None)))))))))))))))))
 
 marks_of_two_bytes : map mark_of (codes ".." ∷ codes "==" ∷ codes "!=" ∷ codes "<=" ∷ codes ">=" ∷ []) ≡ Some m.DotDot ∷ Some m.Equal ∷ Some m.NotEqual ∷ Some m.LessEq ∷ Some m.MoreEq ∷ []
 marks_of_two_bytes = refl
 
-marks_of_one_byte : map mark_of (codes "." ∷ codes "/" ∷ codes "+" ∷ codes "-" ∷ codes "*" ∷ codes "(" ∷ codes ")" ∷ codes "," ∷ codes "=" ∷ codes "<" ∷ codes ">" ∷ []) ≡ Some m.Dot ∷ Some m.Slash ∷ Some m.Plus ∷ Some m.Minus ∷ Some m.Star ∷ Some m.Open ∷ Some m.Close ∷ Some m.Comma ∷ Some m.Is ∷ Some m.Less ∷ Some m.More ∷ []
+marks_of_one_byte : map mark_of (codes "." ∷ codes "/" ∷ codes "+" ∷ codes "-" ∷ codes "*" ∷ codes "(" ∷ codes ")" ∷ codes "," ∷ codes "=" ∷ codes "<" ∷ codes ">" ∷ codes "{" ∷ codes "}" ∷ []) ≡ Some m.Dot ∷ Some m.Slash ∷ Some m.Plus ∷ Some m.Minus ∷ Some m.Star ∷ Some m.Open ∷ Some m.Close ∷ Some m.Comma ∷ Some m.Is ∷ Some m.Less ∷ Some m.More ∷ Some m.OpenBrace ∷ Some m.CloseBrace ∷ []
 marks_of_one_byte = refl
 
 no_marks : map mark_of (codes "" ∷ codes "!" ∷ codes "..." ∷ codes "=<" ∷ []) ≡ None ∷ None ∷ None ∷ None ∷ []

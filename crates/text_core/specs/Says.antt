@@ -5,9 +5,11 @@ use Rattle.text_core.specs.declared.token.TokenKind.{TokenKind}
 use Rattle.text_core.specs.declared.token.TokenKind.TheVariants as k
 use Rattle.text_core.specs.declared.token.Token.{Token}
 use Rattle.text_core.specs.declared.mark.Mark.TheVariants as m
+use Rattle.text_core.specs.declared.dialect.Dialect.{Dialect}
+use Rattle.text_core.specs.declared.dialect.Dialect.TheVariants.{Classic, Third}
 use Rattle.text_core.specs.Decimals.{number_of}
 use Rattle.text_core.specs.Marks.{mark_of}
-use Rattle.text_core.specs.Tokens.{is_blank, is_word_byte, token_at, begun}
+use Rattle.text_core.specs.Tokens.{is_blank, is_word_byte, is_run_byte, token_in, begun}
 use Rattle.text_core.specs.Glyphs.{Glyph, text, figure, sign}
 
 -- the meaning of a token, if any: a number above `max` has none
@@ -21,13 +23,20 @@ abbrev pub skipped : List ℕ → List ℕ
 skipped bs = drop (prefix_len is_blank bs) bs
 
 -- the bytes are tokens, each the longest, with optional blanks after each, and they mean the glyphs
-abbrev pub SaysFrom : List ℕ → List Glyph → Type 0
-SaysFrom bytes [] = bytes ≡ []
-SaysFrom bytes (g ∷ gs) = (kind : TokenKind) × (n : ℕ) × (token_at bytes ≡ Some (begun kind n)) × (said kind (take n bytes) ≡ Some g) × SaysFrom (skipped (drop n bytes)) gs
+abbrev pub SaysFromIn : Dialect → List ℕ → List Glyph → Type 0
+SaysFromIn d bytes [] = bytes ≡ []
+SaysFromIn d bytes (g ∷ gs) = (kind : TokenKind) × (n : ℕ) × (token_in d bytes ≡ Some (begun kind n)) × (said kind (take n bytes) ≡ Some g) × SaysFromIn d (skipped (drop n bytes)) gs
 
--- the bytes of a line mean the glyphs
+-- the bytes of a line of this dialect mean the glyphs
+abbrev pub SaysIn : Dialect → List ℕ → List Glyph → Type 0
+SaysIn d bytes gs = SaysFromIn d (skipped bytes) gs
+
+-- the same in the classic dialect
+abbrev pub SaysFrom : List ℕ → List Glyph → Type 0
+SaysFrom bytes gs = SaysFromIn Classic bytes gs
+
 abbrev pub Says : List ℕ → List Glyph → Type 0
-Says bytes gs = SaysFrom (skipped bytes) gs
+Says bytes gs = SaysIn Classic bytes gs
 
 -- the bytes of a token's span
 abbrev pub token_text : List ℕ → Token → List ℕ
@@ -43,6 +52,11 @@ AreSaid line _ _ = ⊥
 abbrev pub IsBoundary : List ℕ → Type 0
 IsBoundary [] = Unit {0}
 IsBoundary (b ∷ bs) = is_word_byte b ≡ false
+
+-- the first byte is no byte of a run, so a token of either dialect may end before these bytes
+abbrev pub IsApart : List ℕ → Type 0
+IsApart [] = Unit {0}
+IsApart (b ∷ bs) = is_run_byte b ≡ false
 
 -- the first byte doesn't extend a mark
 abbrev pub ends_mark : List ℕ → Bool
@@ -80,3 +94,6 @@ ends_of_marks = refl
 
 a_mark_is_a_boundary : IsBoundary (codes "-a")
 a_mark_is_a_boundary = refl
+
+a_set_of_ports : SaysIn Third (codes "{80,a-b}") (sign m.OpenBrace ∷ figure 80 ∷ sign m.Comma ∷ text (codes "a-b") ∷ sign m.CloseBrace ∷ [])
+a_set_of_ports = (k.Mark, 1, refl, refl, (k.Number, 2, refl, refl, (k.Mark, 1, refl, refl, (k.Word, 3, refl, refl, (k.Mark, 1, refl, refl, refl)))))

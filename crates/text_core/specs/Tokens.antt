@@ -1,10 +1,12 @@
--- The definition of the tokens of a line.
-use Rattle.std.specs.Prelude.{◌≡◌, ℕ, ◌+◌, ◌-◌, ◌<◌, ◌≤◌, ◌==◌, Bool, true, false, ◌&&◌, ◌||◌, if◌then◌else◌, List, [], ◌∷◌, length, drop, Option, Some, None, option_map, map, codes, refl}
-use Rattle.std.specs.List.{prefix_len}
+-- The definition of the tokens of a line, in both dialects.
+use Rattle.std.specs.Prelude.{◌≡◌, ℕ, ◌+◌, ◌-◌, ◌<◌, ◌≤◌, ◌==◌, Bool, true, false, ◌&&◌, ◌||◌, if◌then◌else◌, List, [], ◌∷◌, length, take, drop, Option, Some, None, option_map, map, codes, refl}
+use Rattle.std.specs.List.{prefix_len, list_all}
 use Rattle.std.specs.Char.{is_ascii_digit, is_ascii_alphabetic}
 use Rattle.text_core.specs.declared.token.TokenKind.{TokenKind}
 use Rattle.text_core.specs.declared.token.TokenKind.TheVariants.{Word, Number, Mark}
 use Rattle.text_core.specs.declared.token.Token.{Token}
+use Rattle.text_core.specs.declared.dialect.Dialect.{Dialect}
+use Rattle.text_core.specs.declared.dialect.Dialect.TheVariants.{Classic, Third}
 
 abbrev pub is_blank : ℕ → Bool
 is_blank b = b == 32 || b == 9
@@ -55,7 +57,7 @@ begun kind n = (kind, n)
 abbrev pub number_at : List ℕ → ℕ → Option Begun
 number_at bs n = if begins_word (drop n bs) then None else Some (begun Number n)
 
--- the kind and the length of the longest token at the start of the bytes
+-- the kind and the length of the longest token of the classic dialect at the start of the bytes
 abbrev pub token_at : List ℕ → Option Begun
 token_at [] = None
 token_at (b ∷ bs) =
@@ -63,30 +65,75 @@ token_at (b ∷ bs) =
     else (if is_digit b then number_at (b ∷ bs) (prefix_len is_digit (b ∷ bs))
     else option_map (begun Mark) (mark_length (b ∷ bs)))
 
+-- ---- the third dialect
+
+-- letters, digits, `_` and `:`
+abbrev pub is_run_start : ℕ → Bool
+is_run_start b = is_word_byte b || b == 58
+
+-- letters, digits, `_`, `:` and `-`
+abbrev pub is_run_byte : ℕ → Bool
+is_run_byte b = is_run_start b || b == 45
+
+-- `{` and `}`
+abbrev pub is_brace : ℕ → Bool
+is_brace b = b == 123 || b == 125
+
+-- digits alone are a number, and any other run is a word
+abbrev pub run_kind : List ℕ → TokenKind
+run_kind w = if list_all is_digit w then Number else Word
+
+abbrev pub run_at : List ℕ → ℕ → Begun
+run_at bs n = begun (run_kind (take n bs)) n
+
+-- the kind and the length of the token of the third dialect at the start of the bytes: the longest
+-- run, a brace or the longest mark
+abbrev pub third_token_at : List ℕ → Option Begun
+third_token_at [] = None
+third_token_at (b ∷ bs) =
+    if is_run_start b then Some (run_at (b ∷ bs) (prefix_len is_run_byte (b ∷ bs)))
+    else (if is_brace b then Some (begun Mark 1)
+    else option_map (begun Mark) (mark_length (b ∷ bs)))
+
+-- the kind and the length of the token at the start of the bytes
+abbrev pub token_in : Dialect → List ℕ → Option Begun
+token_in Classic bs = token_at bs
+token_in Third bs = third_token_at bs
+
+-- ---- lines
+
 -- the offset after the blanks at an offset
 abbrev pub after_blanks : List ℕ → ℕ → ℕ
 after_blanks line from = from + prefix_len is_blank (drop from line)
 
 -- from one offset to another, the line is these tokens in order, each the longest, and blanks
 -- before, between and after them
+abbrev pub StandIn : Dialect → List ℕ → ℕ → List Token → ℕ → Type 0
+StandIn d line from [] to = to ≡ after_blanks line from
+StandIn d line from (t ∷ ts) to = (t.start ≡ after_blanks line from) × (t.start < t.end) × (t.end ≤ length line) × (token_in d (drop t.start line) ≡ Some (begun t.kind (t.end - t.start))) × StandIn d line t.end ts to
+
+-- the same in the classic dialect
 abbrev pub Stand : List ℕ → ℕ → List Token → ℕ → Type 0
-Stand line from [] to = to ≡ after_blanks line from
-Stand line from (t ∷ ts) to = (t.start ≡ after_blanks line from) × (t.start < t.end) × (t.end ≤ length line) × (token_at (drop t.start line) ≡ Some (begun t.kind (t.end - t.start))) × Stand line t.end ts to
+Stand line from ts to = StandIn Classic line from ts to
 
 -- the token's span has at least one byte, and lies in the line
 abbrev pub StandsIn : List ℕ → Token → Type 0
 StandsIn line t = (t.start < t.end) × (t.end ≤ length line)
 
 -- the offset is inside the line, and no token begins there
-pub record IsBadAt (line : List ℕ) (place : ℕ) : Type 0 where
+pub record IsBadIn (d : Dialect) (line : List ℕ) (place : ℕ) : Type 0 where
   pub inside : place < length line
-  pub none : token_at (drop place line) ≡ None
+  pub none : token_in d (drop place line) ≡ None
 
 -- the first such offset: the line up to it is tokens and blanks
-pub record IsFaultOf (line : List ℕ) (place : ℕ) : Type 0 where
+pub record IsFaultIn (d : Dialect) (line : List ℕ) (place : ℕ) : Type 0 where
   pub before : List Token
-  pub stand : Stand line 0 before place
-  pub bad : IsBadAt line place
+  pub stand : StandIn d line 0 before place
+  pub bad : IsBadIn d line place
+
+-- the same in the classic dialect
+abbrev pub IsFaultOf : List ℕ → ℕ → Type 0
+IsFaultOf line place = IsFaultIn Classic line place
 
 a_word_takes_digits : token_at (codes "w1_ b") ≡ Some (begun Word 3)
 a_word_takes_digits = refl
@@ -126,3 +173,11 @@ blanks = refl
 
 blanks_are_passed : after_blanks (codes "a \t b") 1 ≡ 4
 blanks_are_passed = refl
+
+-- a name may hold `-`, a number may not begin a word of the classic dialect, and an address is one
+-- word
+a_run_is_one_token : map third_token_at (codes "a-b c" ∷ codes "a- b" ∷ codes "1a" ∷ codes "5-3" ∷ codes "::1/128" ∷ codes "2001:db8::7" ∷ codes "8000..8099" ∷ codes "_" ∷ codes "-a" ∷ []) ≡ Some (begun Word 3) ∷ Some (begun Word 2) ∷ Some (begun Word 2) ∷ Some (begun Word 3) ∷ Some (begun Word 3) ∷ Some (begun Word 11) ∷ Some (begun Number 4) ∷ Some (begun Word 1) ∷ Some (begun Mark 1) ∷ []
+a_run_is_one_token = refl
+
+braces_are_marks : map third_token_at (codes "{80,443}" ∷ codes "}" ∷ codes "!" ∷ codes "" ∷ codes ".." ∷ []) ≡ Some (begun Mark 1) ∷ Some (begun Mark 1) ∷ None ∷ None ∷ Some (begun Mark 2) ∷ []
+braces_are_marks = refl

@@ -1,12 +1,13 @@
 //! The meaning of the tokens of a line.
 ghost use Rattle.std.specs.Prelude.{◌≡◌, List, IfOk};
 ghost use Rattle.text_core.specs.Glyphs.{Glyph, glyphs_of};
-ghost use Rattle.text_core.specs.Says.{Says};
+ghost use Rattle.text_core.specs.Says.{Says, SaysIn};
 
+use crate::dialect::Dialect;
 use crate::mark::Mark;
 use crate::number::decimal;
 use crate::refusal::Refusal;
-use crate::token::{TokenKind, tokens};
+use crate::token::{TokenKind, tokens_in};
 use list_core::List;
 use std::alloc::Global;
 
@@ -36,13 +37,18 @@ impl<'a> Item<'a> {
     }
 }
 
-/// Returns the meaning of the tokens of a line. A line is malformed if it has a bad token or a
-/// number above `MAX`.
-pub fn items<'a>(alloc: Global, line: &'a [u8]) -> Result<List<Item<'a>>, Refusal>
-    ensures said { IfOk result (λ is. Says line.now (glyphs_of is)) }
-    ensures silent { result ≡ Err Refusal.NoForm → (gs : List Glyph) → Says line.now gs → ⊥ }
+/// Returns the meaning of the tokens of a line of this dialect. A line is malformed if it has a bad
+/// token or a number above `MAX`.
+pub fn items_in<'a>(
+    alloc: Global,
+    line: &'a [u8],
+    dialect: Dialect,
+) -> Result<List<Item<'a>>, Refusal>
+    ensures said { IfOk result (λ is. SaysIn dialect line.now (glyphs_of is)) }
+    ensures silent { result ≡ Err Refusal.NoForm → (gs : List Glyph) → SaysIn dialect line.now gs →
+        ⊥ }
 {
-    let tokens = tokens(alloc, line)?;
+    let tokens = tokens_in(alloc, line, dialect)?;
     let mut found = List::from_vec(Vec::new(alloc));
     for token in tokens.as_slice() {
         let Some(item) = Item::of(token.kind, &line[token.start..token.end]) else {
@@ -51,4 +57,13 @@ pub fn items<'a>(alloc: Global, line: &'a [u8]) -> Result<List<Item<'a>>, Refusa
         found.push(item)?;
     }
     Ok(found)
+}
+
+/// Returns the meaning of the tokens of a line of the classic dialect. A line is malformed if it has
+/// a bad token or a number above `MAX`.
+pub fn items<'a>(alloc: Global, line: &'a [u8]) -> Result<List<Item<'a>>, Refusal>
+    ensures said { IfOk result (λ is. Says line.now (glyphs_of is)) }
+    ensures silent { result ≡ Err Refusal.NoForm → (gs : List Glyph) → Says line.now gs → ⊥ }
+{
+    items_in(alloc, line, Dialect::Classic)
 }

@@ -1,13 +1,19 @@
 //! The laws of tokens and lines.
-ghost use Rattle.text_core.specs.Laws.{LongestTokenIsTaken, BytesSayOneList, TokensSayTheLine, PrintedNumberReadsBack};
+ghost use Rattle.text_core.specs.Laws.{LongestTokenIsTaken, LongestRunIsTaken, BytesSayOneList, TokensSayTheLine, PrintedNumberReadsBack};
 
-/// A token is the longest prefix of the bytes that is a word, a number or a mark. Digits directly
-/// before a letter or `_` are no number.
+/// A token of the classic dialect is the longest prefix of the bytes that is a word, a number or a
+/// mark. Digits directly before a letter or `_` are no number.
 pub fn longest_token_is_taken()
     ensures { LongestTokenIsTaken }
 {}
 
-/// The bytes of a line mean at most one list of words, numbers and marks.
+/// A token of the third dialect is the longest prefix of the bytes that is a word, a number or a
+/// mark.
+pub fn longest_run_is_taken()
+    ensures { LongestRunIsTaken }
+{}
+
+/// The bytes of a line of the classic dialect mean at most one list of words, numbers and marks.
 pub fn bytes_say_one_list()
     ensures { BytesSayOneList }
 {}

@@ -21,6 +21,8 @@ pub enum Mark {
     LessEq,
     More,
     MoreEq,
+    OpenBrace,
+    CloseBrace,
 }
 
 impl Mark {
@@ -45,6 +47,8 @@ impl Mark {
             b"<=" => Mark::LessEq,
             b">" => Mark::More,
             b">=" => Mark::MoreEq,
+            b"{" => Mark::OpenBrace,
+            b"}" => Mark::CloseBrace,
             _ => return None,
         })
     }

@@ -7,14 +7,14 @@ use Rattle.front_defs.specs.declared.options.Options.{Options}
 use Rattle.replay_app.specs.Answer.{Answer, IsGiven}
 use Rattle.replay_app.specs.Output.{Answers}
 use Rattle.replay_app.specs.Statuses.{CanEnd, IsStop}
-use Rattle.replay_app.specs.Words.{Form, WhereTold, file_words, form_in, form_of}
+use Rattle.replay_app.specs.Words.{Form, WhereTold, file_words, form_up_to, form_of}
 use Rattle.block_replay.specs.Output.{IsBlockOutput}
-use Rattle.block_replay.specs.Words.{BlockForm, CanBlockEnd, block_file_words, block_form_in, block_form_of}
+use Rattle.block_replay.specs.Words.{BlockForm, CanBlockEnd, block_file_words, block_form_up_to, block_form_of}
 use Rattle.tap_core.specs.Lists.{Entry}
 use Rattle.study.specs.Files.{CanStudyEnd}
 use Rattle.study.specs.Studied.{IsAnswered}
 use Rattle.study.specs.declared.parts.Study.{Study}
-use Rattle.zovatsemo.specs.Front.{form_asked, block_form_asked, Asked, study_of, run_of, block_of, AnswersAsked, CanEndAsked}
+use Rattle.zovatsemo.specs.Front.{latest, form_asked, block_form_asked, Asked, study_of, run_of, block_of, AnswersAsked, CanEndAsked}
 
 pub no_memory : IsStop 10
 no_memory = search rules
@@ -27,8 +27,8 @@ pub ends_so : (form : Form) → CanEnd form 10
 ends_so form = inr no_memory
 
 -- the arguments that the options give have the expected form
-pub same_form : (words items : List (String Global)) (options : Options) → words ≡ items → map string_bytes items ≡ words_of options → form_in words ≡ form_asked options
-same_form words items options read same = ap form_in read ∙ ap form_of same
+pub same_form : (words items : List (String Global)) (options : Options) → words ≡ items → map string_bytes items ≡ words_of options → form_up_to latest words ≡ form_asked options
+same_form words items options read same = ap (form_up_to latest) read ∙ ap (form_of latest) same
 
 -- the output for arguments is the output for their form
 pub answered_so : (content : List ℕ → Option (List ℕ)) (taps : List Entry) (status : ℕ) (old new : Option (List ℕ)) (given asked : Form) → given ≡ asked
@@ -42,8 +42,8 @@ answered_so content taps status old new given asked same =
 pub block_ends_so : (form : BlockForm) → CanBlockEnd form 10
 block_ends_so form = inr no_memory
 
-pub same_block_form : (words items : List (String Global)) (options : Options) → words ≡ items → map string_bytes items ≡ words_of options → block_form_in words ≡ block_form_asked options
-same_block_form words items options read same = ap block_form_in read ∙ ap block_form_of same
+pub same_block_form : (words items : List (String Global)) (options : Options) → words ≡ items → map string_bytes items ≡ words_of options → block_form_up_to latest words ≡ block_form_asked options
+same_block_form words items options read same = ap (block_form_up_to latest) read ∙ ap (block_form_of latest) same
 
 pub block_answered_so : (content : List ℕ → Option (List ℕ)) (taps : List Entry) (status : ℕ) (old new : Option (List ℕ)) (given asked : BlockForm) → given ≡ asked
     → WhereTold content (block_file_words given) (λ contents. IsGiven (IsBlockOutput given contents taps) status old new)

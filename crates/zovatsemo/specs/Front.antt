@@ -4,6 +4,8 @@ use Rattle.std.specs.Borrow.{Bor}
 use Rattle.std.specs.Option.{option_and_then}
 use Rattle.sched_defs.specs.SendTime.{most_rate, most_overhead}
 use Rattle.sched_defs.specs.declared.rate.LinkRate.{LinkRate}
+use Rattle.policy_text_defs.specs.declared.edition.Edition.{Edition}
+use Rattle.policy_text_defs.specs.declared.edition.Edition.TheVariants.{Third}
 use Rattle.tap_core.specs.Lists.{Entry}
 use Rattle.front_defs.specs.Options.{words_of, has_words}
 use Rattle.front_defs.specs.declared.command.Command.{Command}
@@ -26,6 +28,10 @@ use Rattle.study.specs.declared.parts.Measure.{Measure}
 use Rattle.study.specs.declared.parts.Study.{Study}
 use Rattle.study.specs.declared.parts.View as study
 use Rattle.study.specs.declared.parts.View.TheVariants as studied
+
+-- the latest edition of the language that the program reads
+abbrev pub latest : Edition
+latest = Third
 
 -- ---- studies
 -- the limits and widths of `size`, on rank stores or not
@@ -61,12 +67,12 @@ link_rate bytes overhead =
 
 -- a script paces a run over a capture, with or without a target
 abbrev pub scripted : Bor (List ℕ) → Option (Bor (List ℕ)) → Bor (List ℕ) → Bor (List ℕ) → study.View → Study
-scripted p target c e shown = record { policy = p; target = target; capture = c; drive = Script e; view = shown }
+scripted p target c e shown = record { latest = latest; policy = p; target = target; capture = c; drive = Script e; view = shown }
 
 -- a link paces a run: the files are a policy and a capture, and a target may be between them
 abbrev pub linked : List (Bor (List ℕ)) → Drive → study.View → Option Study
-linked (p ∷ c ∷ []) drive shown = Some (record { policy = p; target = None; capture = c; drive = drive; view = shown })
-linked (p ∷ t ∷ c ∷ []) drive shown = Some (record { policy = p; target = Some t; capture = c; drive = drive; view = shown })
+linked (p ∷ c ∷ []) drive shown = Some (record { latest = latest; policy = p; target = None; capture = c; drive = drive; view = shown })
+linked (p ∷ t ∷ c ∷ []) drive shown = Some (record { latest = latest; policy = p; target = Some t; capture = c; drive = drive; view = shown })
 linked files drive shown = None
 
 -- a script paces a run through the policy's own tree
@@ -81,7 +87,7 @@ replayed files shown = None
 
 -- a link paces a run through the queues of a target
 abbrev pub linked_through : List (Bor (List ℕ)) → LinkRate → study.View → Option Study
-linked_through (p ∷ t ∷ c ∷ []) rate shown = Some (record { policy = p; target = Some t; capture = c; drive = Link rate; view = shown })
+linked_through (p ∷ t ∷ c ∷ []) rate shown = Some (record { latest = latest; policy = p; target = Some t; capture = c; drive = Link rate; view = shown })
 linked_through files rate shown = None
 
 -- a link paces the run of `size` if it has a rate, and otherwise a script
@@ -113,10 +119,10 @@ pub data Asked : Type 0 where
 
 -- the forms of the replayer's arguments that the options give
 abbrev pub form_asked : Options → Form
-form_asked o = form_of (words_of o)
+form_asked o = form_of latest (words_of o)
 
 abbrev pub block_form_asked : Options → BlockForm
-block_form_asked o = block_form_of (words_of o)
+block_form_asked o = block_form_of latest (words_of o)
 
 abbrev pub words_asked_by : Bool → Form → BlockForm → Asked
 words_asked_by false form block_form = run_of form
@@ -165,18 +171,18 @@ replay_in_sums : (p t c e : Bor (List ℕ)) → study_by command.Replay (p ∷ t
 replay_in_sums p t c e = refl
 
 link_without_a_target : (p c : Bor (List ℕ)) (rate : LinkRate) → study_by command.Link (p ∷ c ∷ []) (Some rate) studied.Report
-    ≡ Some (record { policy = p; target = None; capture = c; drive = Link rate; view = studied.Report })
+    ≡ Some (record { latest = latest; policy = p; target = None; capture = c; drive = Link rate; view = studied.Report })
 link_without_a_target p c rate = refl
 
 forward_with_a_target : (p t c : Bor (List ℕ)) (rate : LinkRate) → study_by command.Forward (p ∷ t ∷ c ∷ []) (Some rate) studied.Report
-    ≡ Some (record { policy = p; target = Some t; capture = c; drive = Forward rate; view = studied.Report })
+    ≡ Some (record { latest = latest; policy = p; target = Some t; capture = c; drive = Forward rate; view = studied.Report })
 forward_with_a_target p t c rate = refl
 
 size_with_a_script : (p t c e : Bor (List ℕ)) (wanted : Measure) → study_by command.Size (p ∷ t ∷ c ∷ e ∷ []) None (studied.Size wanted) ≡ Some (scripted p (Some t) c e (studied.Size wanted))
 size_with_a_script p t c e wanted = refl
 
 size_with_a_rate : (p t c : Bor (List ℕ)) (rate : LinkRate) (wanted : Measure) → study_by command.Size (p ∷ t ∷ c ∷ []) (Some rate) (study_view command.Size view.Json wanted)
-    ≡ Some (record { policy = p; target = Some t; capture = c; drive = Link rate; view = studied.JsonSize wanted })
+    ≡ Some (record { latest = latest; policy = p; target = Some t; capture = c; drive = Link rate; view = studied.JsonSize wanted })
 size_with_a_rate p t c rate wanted = refl
 
 size_needs_a_target : (p c : Bor (List ℕ)) (rate : LinkRate) (wanted : Measure) → study_by command.Size (p ∷ c ∷ []) (Some rate) (studied.Size wanted) ≡ None
@@ -185,6 +191,6 @@ size_needs_a_target p c rate wanted = refl
 a_plan_is_no_study : (p t : Bor (List ℕ)) → study_by command.Plan (p ∷ t ∷ []) None studied.Json ≡ None
 a_plan_is_no_study p t = refl
 
-rank_stores_have_a_form : words_asked_by true (form_of (codes "calm" ∷ codes "p" ∷ codes "t" ∷ [])) (block_form_of (codes "calm" ∷ codes "p" ∷ codes "t" ∷ []))
-    ≡ block_of (calm (codes "p") (codes "t"))
+rank_stores_have_a_form : words_asked_by true (form_of Third (codes "calm" ∷ codes "p" ∷ codes "t" ∷ [])) (block_form_of Third (codes "calm" ∷ codes "p" ∷ codes "t" ∷ []))
+    ≡ block_of (calm Third (codes "p") (codes "t"))
 rank_stores_have_a_form = refl

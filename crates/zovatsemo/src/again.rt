@@ -1,4 +1,5 @@
 //! Second readings of a command's files, for messages and warnings. A pipe isn't read twice.
+use crate::asked::LATEST;
 use crate::files::front_of;
 use crate::told::tell;
 use front_core::{
@@ -105,7 +106,7 @@ fn judged_again(rt: &HostRuntime, options: &Options<'_>) -> Result<Option<Judged
     if size_of(rt, name).is_none() {
         return Ok(None);
     }
-    match read_policy(rt.alloc(), &mut FileShelf::new(rt.clone()?), name) {
+    match read_policy(rt.alloc(), LATEST, &mut FileShelf::new(rt.clone()?), name) {
         Ok(Reading::Accepted(judged)) => Ok(Some(judged)),
         _ => Ok(None),
     }

@@ -6,9 +6,13 @@ ghost use Rattle.zovatsemo.specs.Front.{measure, size_view, run_view, study_view
 
 use events_core::{MOST_OVERHEAD, MOST_RATE};
 use front_defs::{Command, Options, Sizes, has_words};
+use policy_text_defs::Edition;
 use sched_defs::LinkRate;
 use size_core::{Limits, Widths};
 use study::{Drive, Measure, Study, View};
+
+/// The latest edition of the language that the program reads.
+pub const LATEST: Edition = Edition::Third;
 
 /// Returns the limits and widths of `size`, on rank stores if `block`.
 fn measure(block: bool, sizes: Sizes) -> Measure
@@ -82,6 +86,7 @@ fn linked<'a>(files: &[&'a str], drive: Drive<'a>, view: View) -> Option<Study<'
 {
     match files {
         [policy, capture] => Some(Study {
+            latest: LATEST,
             policy,
             target: None,
             capture,
@@ -89,6 +94,7 @@ fn linked<'a>(files: &[&'a str], drive: Drive<'a>, view: View) -> Option<Study<'
             view,
         }),
         [policy, target, capture] => Some(Study {
+            latest: LATEST,
             policy,
             target: Some(target),
             capture,
@@ -106,6 +112,7 @@ fn directed<'a>(files: &[&'a str], view: View) -> Option<Study<'a>>
 {
     match files {
         [policy, capture, script] => Some(Study {
+            latest: LATEST,
             policy,
             target: None,
             capture,
@@ -123,6 +130,7 @@ fn replayed<'a>(files: &[&'a str], view: View) -> Option<Study<'a>>
 {
     match files {
         [policy, target, capture, script] => Some(Study {
+            latest: LATEST,
             policy,
             target: Some(target),
             capture,
@@ -141,6 +149,7 @@ fn linked_through<'a>(files: &[&'a str], rate: LinkRate, view: View) -> Option<S
 {
     match files {
         [policy, through, capture] => Some(Study {
+            latest: LATEST,
             policy,
             target: Some(through),
             capture,

@@ -13,14 +13,14 @@ ghost use Rattle.study.specs.Files.{study_files, HasLinkRate, CanStudyEnd};
 ghost use Rattle.study.specs.Studied.{IsAnswered};
 ghost use Rattle.zovatsemo.specs.Front.{form_asked, block_form_asked, words_asked, asked, asked_files, AnswersAsked, CanEndAsked};
 
-use crate::asked::study_asked;
+use crate::asked::{LATEST, study_asked};
 use block_core::BlockFabric;
-use block_replay::block_run;
+use block_replay::block_run_to;
 use fabric_core::{Fabric, FlatFabric};
 use front_core::Catching;
 use front_defs::{Options, words_of};
 use outside_core::{Shelf, Sink};
-use replay_app::run;
+use replay_app::run_to;
 use std::alloc::Global;
 use study::{Study, study};
 use tap_core::Tap;
@@ -28,7 +28,7 @@ use tap_core::Tap;
 /// Exit status: out of memory before the run.
 const NO_MEMORY: u8 = 10;
 
-/// Runs the replayer's `run` with the arguments that the options give, and does nothing else.
+/// Runs the replayer's `run_to` with the arguments that the options give, and does nothing else.
 fn run_queues<S: Shelf, K: Sink, F: Fabric>(
     alloc: Global,
     options: &Options<'_>,
@@ -50,12 +50,12 @@ fn run_queues<S: Shelf, K: Sink, F: Fabric>(
     ensures sink_cause { result ≡ 9 → Rose (K.faults sink.old) (K.faults sink.new) }
 {
     match words_of(alloc, options) {
-        Ok(words) => run(alloc, &words, shelf, sink, fabric, taps),
+        Ok(words) => run_to(alloc, LATEST, &words, shelf, sink, fabric, taps),
         Err(_) => NO_MEMORY,
     }
 }
 
-/// Runs `block_run` with the arguments that the options give, and does nothing else.
+/// Runs `block_run_to` with the arguments that the options give, and does nothing else.
 fn run_blocks<S: Shelf, K: Sink>(
     alloc: Global,
     options: &Options<'_>,
@@ -77,7 +77,7 @@ fn run_blocks<S: Shelf, K: Sink>(
     ensures sink_cause { result ≡ 9 → Rose (K.faults sink.old) (K.faults sink.new) }
 {
     match words_of(alloc, options) {
-        Ok(words) => block_run(alloc, &words, shelf, sink, fabric, taps),
+        Ok(words) => block_run_to(alloc, LATEST, &words, shelf, sink, fabric, taps),
         Err(_) => NO_MEMORY,
     }
 }
@@ -144,8 +144,8 @@ fn run_words<S: Shelf, K: Sink>(
 }
 
 /// Runs what the options ask for, and does nothing else: a study, or the replayer with the arguments
-/// that they give, which is `block_run` with the option for rank stores and otherwise `run`. Under
-/// `--plain`, the sink is the output itself.
+/// that they give, which is `block_run_to` with the option for rank stores and otherwise `run_to`.
+/// Under `--plain`, the sink is the output itself.
 pub fn front_run<S: Shelf, K: Sink>(
     alloc: Global,
     options: &Options<'_>,

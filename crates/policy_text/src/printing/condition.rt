@@ -8,7 +8,7 @@ use policy_text_defs::{Condition, FieldName};
 use std::alloc::AllocError;
 use text_core::put_decimal;
 
-fn field_word(field: FieldName) -> &'static [u8]
+pub fn field_word(field: FieldName) -> &'static [u8]
     ensures { result.now ≡ field_word field }
 {
     match field {
@@ -30,7 +30,7 @@ pub fn put_between(into: &mut Vec<u8>, low: u64, high: u64) -> Result<(), AllocE
     put_decimal(into, high as u128)
 }
 
-fn put_range(into: &mut Vec<u8>, low: u32, high: u32) -> Result<(), AllocError>
+pub fn put_range(into: &mut Vec<u8>, low: u32, high: u32) -> Result<(), AllocError>
     ensures { OnOk result (into.new.items ≡ into.old.items ++ range_text low high) }
 {
     if low == high {
@@ -48,7 +48,7 @@ fn put_octet(into: &mut Vec<u8>, octet: u32, mark: &[u8]) -> Result<(), AllocErr
 }
 
 /// Appends an IPv4 address and its prefix length.
-fn put_address(into: &mut Vec<u8>, address: u32, prefix: u32) -> Result<(), AllocError>
+pub fn put_address(into: &mut Vec<u8>, address: u32, prefix: u32) -> Result<(), AllocError>
     ensures { OnOk result (into.new.items ≡ into.old.items ++ address_text address prefix) }
 {
     put_octet(into, address / 16_777_216, b".")?;

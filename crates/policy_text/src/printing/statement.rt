@@ -8,6 +8,7 @@ ghost use Rattle.policy_text_defs.specs.Canonical.{span_text, attribute_text, at
 
 use crate::printing::condition::{put_between, put_guard};
 use crate::printing::expression::put_term;
+use crate::printing::test::put_alternatives;
 use list_core::Name;
 use policy_text_defs::{Attrs, Statement, Term};
 use rank_defs::Span;
@@ -163,6 +164,12 @@ pub fn put_statement(into: &mut Vec<u8>, statement: &Statement) -> Result<(), Al
             put_name(into, name)?;
             put_attributes(into, attrs)?;
             put_guard(into, conditions.as_slice())
+        }
+        Statement::Filter(name, attrs, alternatives) => {
+            into.extend_from_slice(b"class ")?;
+            put_name(into, name)?;
+            put_attributes(into, attrs)?;
+            put_alternatives(into, alternatives.as_slice())
         }
         Statement::Leaf(name, used, attrs, limit, classes) => {
             put_vertex(into, b"leaf ", name, used, attrs)?;

@@ -14,11 +14,11 @@ arrive-requires-2-clause-stands g c =
     let policy = c.args.policy.now.policy in
     let r = c.requires in
     let sound = sound_start policy r.accepted in
-    asked g.C.Scheduler.stands _ policy (c.in_ok-arrive.ensures.policy ∙ r.policy) r.accepted _ _ (λ q s. CanArrive q s c.args.second.now)
+    asked g.C.Scheduler.stands _ policy (c.in_ok-arrive.ensures.kept.policy ∙ r.policy) r.accepted _ _ (λ q s. CanArrive q s c.args.second.now)
     (record {
       state = arrived policy c.args.first.now (start policy);
       sound = sound_arrived policy c.args.first.now (start policy) r.accepted sound r.can.0;
-      stood = stands_arrived g.C.Scheduler.stands _ policy r.policy r.accepted _ _ _ _ c.args.first.now c.in_ok-arrive.ensures.ok (start policy) sound r.stands;
+      stood = stands_arrived g.C.Scheduler.stands _ policy r.policy r.accepted _ _ _ _ c.args.first.now c.in_ok-arrive.ensures.state (start policy) sound r.stands;
       has = r.can.1.0;
     })
 
@@ -28,8 +28,8 @@ returns-clause-stands g c =
     let r = c.requires in
     let sound = sound_start policy r.accepted in
     let next = sound_arrived policy c.args.first.now (start policy) r.accepted sound r.can.0 in
-    stands_arrived g.C.Scheduler.stands _ policy (c.in_ok-arrive.ensures.policy ∙ r.policy) r.accepted _ _ _ _ c.args.second.now c.in_ok-arrive-2.ensures.ok _ next
-    (stands_arrived g.C.Scheduler.stands _ policy r.policy r.accepted _ _ _ _ c.args.first.now c.in_ok-arrive.ensures.ok (start policy) sound r.stands)
+    stands_arrived g.C.Scheduler.stands _ policy (c.in_ok-arrive.ensures.kept.policy ∙ r.policy) r.accepted _ _ _ _ c.args.second.now c.in_ok-arrive-2.ensures.state _ next
+    (stands_arrived g.C.Scheduler.stands _ policy r.policy r.accepted _ _ _ _ c.args.first.now c.in_ok-arrive.ensures.state (start policy) sound r.stands)
 
 pub returns-clause-pushes : goal.returns-clause-pushes
 returns-clause-pushes g c =
@@ -41,9 +41,9 @@ returns-clause-pushes g c =
     let second = c.args.second.now in
     let sound = sound_start policy r.accepted in
     let next = sound_arrived policy first (start policy) r.accepted sound r.can.0 in
-    let stood = stands_arrived S.stands _ policy r.policy r.accepted _ _ _ _ first c.in_ok-arrive.ensures.ok (start policy) sound r.stands in
+    let stood = stands_arrived S.stands _ policy r.policy r.accepted _ _ _ _ first c.in_ok-arrive.ensures.state (start policy) sound r.stands in
     let one = rw r.policy at c.in_ok-arrive.ensures.answer in
-    let two = rw (c.in_ok-arrive.ensures.policy, r.policy) at c.in_ok-arrive-2.ensures.answer in
+    let two = rw (c.in_ok-arrive.ensures.kept.policy, r.policy) at c.in_ok-arrive-2.ensures.answer in
     omega (
       arith,
       r.no_pushes,

@@ -7,9 +7,9 @@ loop-event-preserved g c =
     let i = c.loop-event.invariant in
     let e = c.in_ok-depart_line.ensures in
     record {
-      stands = left g.C.Scheduler.stands _ c.args.policy.now.policy i.same c.depth.ensures.accepted _ _ _ _ (λ _. Unit {0}) (λ s h. h) e.state i.stands;
-      same = e.asked.policy ∙ i.same;
-      room = omega (arith, e.room, i.room);
+      stands = left g.C.Scheduler.stands _ c.args.policy.now.policy i.same c.depth.ensures.accepted _ _ _ _ (λ _. Unit {0}) (λ s h. h) e.departs.state i.stands;
+      same = e.departs.asked.policy ∙ i.same;
+      room = omega (arith, e.departs.room, i.room);
       live = e.live;
-      departures = omega (arith, e.asked.departures, i.departures);
+      departures = omega (arith, e.departs.asked.departures, i.departures);
     }

@@ -37,9 +37,9 @@ loop-number-preserved g c =
     let e = c.arrive.ensures in
     let p = packet c.loop-number.number in
     record {
-      stands = stands_tried g.C.Scheduler.stands _ policy i.same c.requires.accepted _ _ _ _ p c.arrive.result (packet_in policy c.requires.accepted c.loop-number.number) e.ok e.err i.stands;
-      same = e.policy ∙ i.same;
-      room = e.room ∙ i.room;
+      stands = stands_tried g.C.Scheduler.stands _ policy i.same c.requires.accepted _ _ _ _ p c.arrive.result (packet_in policy c.requires.accepted c.loop-number.number) e.state i.stands;
+      same = e.kept.policy ∙ i.same;
+      room = e.path.room ∙ i.room;
       pushes = omega (arith, e.pushes, one_push_at_most c.arrive.result, i.pushes);
       departures = e.departures ∙ i.departures;
     }

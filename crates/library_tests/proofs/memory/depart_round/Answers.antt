@@ -13,7 +13,7 @@ loop-turn-preserved g c =
     let e = c.depart.ensures in
     record {
       stands = left g.C.Scheduler.stands _ c.args.policy.now.policy i.same c.requires.accepted _ _ _ _ (λ _. Unit {0}) (λ s h. h) e.state i.stands;
-      same = e.policy ∙ i.same;
+      same = e.kept.policy ∙ i.same;
       room = omega (arith, e.room, i.room);
       departures = omega (arith, e.departures, i.departures);
     }

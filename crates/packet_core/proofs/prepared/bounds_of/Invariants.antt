@@ -1,7 +1,7 @@
-use Rattle.packet_core.proofs.Prelude.{map, ℕ, ◌≡◌, take, meets, Fields, condition_of, numbers_of, holds}
+use Rattle.packet_core.proofs.Prelude.{map, ℕ, ◌≡◌, take, Header, passes, test_of, numbers_of, holds}
 use Rattle.packet_core.proofs.prepared.bounds_of.Given as goal
 
-abbrev pub invariant-loop-condition : goal.invariant-loop-condition
-invariant-loop-condition l = record {
-  same : (fields : Fields) (n : ℕ) → map (holds (numbers_of fields n)) l.all.items ≡ map (λ c. meets fields n (condition_of c)) (take l.condition-index l.conditions);
+abbrev pub invariant-loop-test : goal.invariant-loop-test
+invariant-loop-test l = record {
+  same : (header : Header) (n : ℕ) → map (holds (numbers_of header.fields n)) l.all.items ≡ map (λ t. passes header n (test_of t)) (take l.test-index l.tests);
 }

@@ -7,10 +7,10 @@ returns-then-passed-captured-clause-fault g c =
     let p = rw c.in-Some.is at c.in_ok-preface.ensures in
     data-broken c.args.head c.args.count _ c.in-Some.preface _ _ p.told
     (short-passed c.in-Some.preface.captured c.in_ok-passed.passed _ (c.in_ok-passed.ensures.end c.if-passed-captured.true) c.if-passed-captured.true)
-    p.few (omega (arith, c.from.ensures)) p.short
+    p.limits.few (omega (arith, c.from.ensures)) p.limits.short
 
 pub returns-clause-found : goal.returns-clause-found
 returns-clause-found g c some =
     let p = rw c.in-Some.is at c.in_ok-preface.ensures in
     record-passed c.args.head c.in_ok-passed.passed c.in-Some.preface _ _ _ p.told c.in_ok-passed.ensures.passed
-    (omega (arith, c.if-passed-captured.false, c.in_ok-passed.ensures.bound)) p.short
+    (omega (arith, c.if-passed-captured.false, c.in_ok-passed.ensures.bound)) p.limits.short

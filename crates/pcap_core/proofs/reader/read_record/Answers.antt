@@ -8,11 +8,11 @@ returns-then-taken-captured-clause-fault g c =
     let bytes = bytes_taken c.take_in_place.new.self c.take_in_place.new.into.items in
     data-broken c.args.head c.args.count _ c.in-Some.preface _ _ p.told
     (short-taken c.in-Some.preface.captured _ bytes c.in_ok-taken.ensures.short (omega (arith, c.if-taken-captured.true, c.in_ok-taken.ensures.count)))
-    p.few (omega (arith, c.from-number.ensures)) p.short
+    p.limits.few (omega (arith, c.from-number.ensures)) p.limits.short
 
 pub returns-clause-found : goal.returns-clause-found
 returns-clause-found g c =
     let p = rw c.in-Some.is at c.in_ok-preface.ensures in
     let bytes = bytes_taken c.take_in_place.new.self c.take_in_place.new.into.items in
-    frame-taken c.args.head _ c.in-Some.preface bytes _ _ _ p.told c.in_ok-taken.ensures.taken p.short
+    frame-taken c.args.head _ c.in-Some.preface bytes _ _ _ p.told c.in_ok-taken.ensures.taken p.limits.short
     (omega (arith, c.if-taken-captured.false, c.in_ok-taken.ensures.count, c.in_ok-taken.ensures.bound))

@@ -21,7 +21,7 @@ returns-in_err-write-in-Accepted-clause-answer g c =
     let text = printed j.lines _ (c.as_slice.ensures ∙ c.in_ok-text-in-Accepted.ensures.text) in
     rw (p.1) record {
       whole = tt;
-      part = accepted-each kind.Policy _ _ _ (policies_are_one (contents c.args.name.now)) (λ a. AppendedPrefix old new a.text) (judged_of j) is
+      part = accepted-each kind.Policy _ _ _ (policies_are_one c.args.latest (contents c.args.name.now)) (λ a. AppendedPrefix old new a.text) (judged_of j) is
           (λ b e. subst (λ (a : Answer). AppendedPrefix old new a.text) (sym e) (subst (λ (t : List ℕ). AppendedPrefix old new t) text c.in_err-write-in-Accepted.ensures.part));
     }
 
@@ -47,4 +47,4 @@ pub returns-in-Refused-clause-answer : goal.returns-in-Refused-clause-answer
 returns-in-Refused-clause-answer g c = λ contents told.
     let r = c.in-Refused.refusal in
     let is = rw c.in-Refused.is at (rw (told.0) at c.in_ok-judged.ensures.read) in
-    refused_told kind.Policy _ _ _ (policies_are_one (contents c.args.name.now)) c.refuse.result _ _ r.code r.place is c.refuse.ensures.status c.refuse.ensures.text c.refuse.ensures.part
+    refused_told kind.Policy _ _ _ (policies_are_one c.args.latest (contents c.args.name.now)) c.refuse.result _ _ r.code r.place is c.refuse.ensures.status c.refuse.ensures.text c.refuse.ensures.part

@@ -11,7 +11,7 @@ returns-in-Some-Replay-clause-left g c = rw (rw c.in-Some-Replay.field-0-is at c
 
 pub returns-in-Some-Check-clause-left : goal.returns-in-Some-Check-clause-left
 returns-in-Some-Check-clause-left g c =
-    rw (rw c.in-Some-Check.field-0-is at c.in-Some-Check.ensures.form) (λ contents told. unused g.F.Fabric (command_form (Check c.in-Some-Check.policy)) contents _ tt c.args.fabric.now c.check_file.result)
+    rw (rw c.in-Some-Check.field-0-is at c.in-Some-Check.ensures.form) (λ contents told. unused g.F.Fabric (command_form (Check c.in-Some-Check.edition c.in-Some-Check.policy)) contents _ tt c.args.fabric.now c.check_file.result)
 
 pub returns-in-Some-Plan-clause-left : goal.returns-in-Some-Plan-clause-left
 returns-in-Some-Plan-clause-left g c =
@@ -38,7 +38,7 @@ pub returns-in-Some-Via-clause-left : goal.returns-in-Some-Via-clause-left
 returns-in-Some-Via-clause-left g c =
     let f = c.in-Some-Via.files in
     rw (rw c.in-Some-Via.field-0-is at c.in-Some-Via.ensures.form)
-    (λ contents told. via_left g.F.Fabric f.policy.now f.topology.now f.map.now f.target.now f.capture.now f.script.now contents _ c.via_files.result _ _ (c.via_files.ensures.left contents told))
+    (λ contents told. via_left g.F.Fabric f.latest f.policy.now f.topology.now f.map.now f.target.now f.capture.now f.script.now contents _ c.via_files.result _ _ (c.via_files.ensures.left contents told))
 
 pub returns-in-Some-Via-clause-answer : goal.returns-in-Some-Via-clause-answer
 returns-in-Some-Via-clause-answer g c = rw (rw c.in-Some-Via.field-0-is at c.in-Some-Via.ensures.form) (λ contents told. c.via_files.ensures.answer contents told)

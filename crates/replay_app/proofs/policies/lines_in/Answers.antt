@@ -5,5 +5,5 @@ use Rattle.replay_app.proofs.policies.lines_in.Goals as goal
 
 pub returns-in_ok-told_of-in-Err : goal.returns-in_ok-told_of-in-Err
 returns-in_ok-told_of-in-Err c =
-    subst (λ (r : Refusal). IsTextRefused c.args.text.now r.code r.place) (sym c.in_ok-told_of-in-Err.ensures.told)
-    (at_fault c.in-Err.fault (cause_told c.args.text.now c.in-Err.fault c.in_ok-told_of-in-Err.ensures.memory c.in-Err.ensures.cause))
+    subst (λ (r : Refusal). IsTextRefused c.args.latest c.args.text.now r.code r.place) (sym c.in_ok-told_of-in-Err.ensures.told)
+    (at_fault c.in-Err.fault (cause_told c.args.latest c.args.text.now c.in-Err.fault c.in_ok-told_of-in-Err.ensures.memory c.in-Err.ensures.cause))

@@ -1,4 +1,4 @@
-use Rattle.replay_app.proofs.Prelude.{subst, ℕ, List, ◌≡◌, ap, ◌∙◌, ◌++◌, err_from_is_err_and, on_ok_weaker, on_err_weaker, appended_nothing, prefix_of_nothing, Appended, AppendedPrefix, soak_line}
+use Rattle.replay_app.proofs.Prelude.{subst, ℕ, List, ap, ◌∙◌, ◌++◌, err_from_is_err_and, on_ok_weaker, on_err_weaker, appended_nothing, prefix_of_nothing, Appended, AppendedPrefix, soak_line}
 use Rattle.replay_app.proofs.soak.write_counts.Goals as goal
 
 pub returns-in_err-put_line-clause-part : goal.returns-in_err-put_line-clause-part

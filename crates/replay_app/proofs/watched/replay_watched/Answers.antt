@@ -13,7 +13,7 @@ returns-in-Script-clause-left g c =
     let before : Sight = sight_of g.T.Tap.kind_of g.T.Tap.state_of c.new-watch.result in
     let left = rw c.in-Script.is at c.replay_files-answer.ensures.left in
     rw c.in-Script.is (λ contents told.
-    script_left g.F.Fabric _ _ _ _ c.in-Script.named contents c.replay_files-answer.result _ _ before _ _ _ c.new-watch.ensures.named
+    script_left g.F.Fabric _ _ _ _ _ c.in-Script.named contents c.replay_files-answer.result _ _ before _ _ _ c.new-watch.ensures.named
     (rw (c.new-watch.ensures.taps, c.replace-watchers.ensures.value) refl) (rw (c.into_taps.ensures) refl) (left contents told))
 
 pub returns-in-Link-clause-answer : goal.returns-in-Link-clause-answer
@@ -27,6 +27,6 @@ pub returns-in-Link-clause-left : goal.returns-in-Link-clause-left
 returns-in-Link-clause-left g c =
     let told = rw (c.new-watch-in-Link.ensures.taps, c.new-in-Link.ensures.items) at c.replay_files.ensures.left in
     elim c.in-Link.is [
-      | inl e ↦ let left = rw e.1 at told in rw e.1 (λ contents known. link_left g.F.Fabric _ _ _ (link _) contents _ c.replay_files.result _ _ _ _ tt (left contents known))
-      | inr e ↦ let left = rw e.1 at told in rw e.1 (λ contents known. link_left g.F.Fabric _ _ _ (forward _) contents _ c.replay_files.result _ _ _ _ tt (left contents known))
+      | inl e ↦ let left = rw e.1 at told in rw e.1 (λ contents known. link_left g.F.Fabric _ _ _ _ (link _) contents _ c.replay_files.result _ _ _ _ tt (left contents known))
+      | inr e ↦ let left = rw e.1 at told in rw e.1 (λ contents known. link_left g.F.Fabric _ _ _ _ (forward _) contents _ c.replay_files.result _ _ _ _ tt (left contents known))
     ]

@@ -1,5 +1,9 @@
+use Rattle.sched_capture.proofs.Prelude.{sink-same}
 use Rattle.sched_capture.proofs.Refusals.{refusal_told, refused_part, none_told}
 use Rattle.sched_capture.proofs.capture.begin.Goals as goal
+
+pub returns-in-Ok-clause-kept : goal.returns-in-Ok-clause-kept
+returns-in-Ok-clause-kept g c = sink-same g.K.Sink.written g.K.Sink.faults c.args.sink.now
 
 pub returns-in-Err-Fault-clause-refused : goal.returns-in-Err-Fault-clause-refused
 returns-in-Err-Fault-clause-refused g c =

@@ -13,7 +13,7 @@ pub returns-clause-report : goal.returns-clause-report
 returns-clause-report g c =
     let r = c.requires in
     let e = c.play.ensures in
-    reported g.C.Scheduler _ c.args.policy.now.policy c.args.pace _ _ _ r.start.policy_is (rw r.start.policy_is at r.start.set.accepted) r.start.stands _ _ _ _ _ _ _ r.fresh e.kept_sink.begins e.ending e.ok e.err
+    reported g.C.Scheduler _ c.args.policy.now.policy c.args.pace _ _ _ r.start.policy_is (rw r.start.policy_is at r.start.set.accepted) r.start.stands _ _ _ _ _ _ _ r.fresh e.keeps.kept_sink.begins e.ending e.ok e.err
 
 pub returns-clause-state : goal.returns-clause-state
 returns-clause-state g c =

@@ -19,7 +19,7 @@ returns-in_err-ending-clause-part g c =
     let file = g.S.Shelf.left c.args.shelf.now in
     let stopped = stops g.C.Scheduler _ (captures_of packets file) (records_heard (captures_of packets file)) (record { all = λ policy event os f h a b is bytes known. is bytes known; part = λ policy event os f a b is bytes known. is bytes known })
     c.args.policy.now.policy (rw r.start.policy_is at r.start.set.accepted) c.args.rate _ r.start.stands r.unused.nothing (left_of packets file) (there packets file) _ _ _ (rw r.start.policy_is at c.in_err-ending.ensures.err) in
-    rw p.1 (IfSome_then (left_of packets file) stopped (λ l short captured known. cut_part _ _ _ _ r.unused.none_gathered c.play_link.ensures.kept_sink.begins (short.cut captured known)))
+    rw p.1 (IfSome_then (left_of packets file) stopped (λ l short captured known. cut_part _ _ _ _ r.unused.none_gathered c.play_link.ensures.keeps.kept_sink.begins (short.cut captured known)))
 
 pub returns-in_err-ending-clause-amid : goal.returns-in_err-ending-clause-amid
 returns-in_err-ending-clause-amid g c =
@@ -39,7 +39,7 @@ returns-in_err-finish-clause-part g c =
     let file = g.S.Shelf.left c.args.shelf.now in
     let whole = forwards g.C.Scheduler _ (captures_of packets file) (records_heard (captures_of packets file)) (record { all = λ policy event os f h a b is bytes known. is bytes known; part = λ policy event os f a b is bytes known. is bytes known })
     c.args.policy.now.policy (rw r.start.policy_is at r.start.set.accepted) c.args.rate _ r.start.stands r.unused.nothing (left_of packets file) (there packets file) c.in_ok-ending.ending _ c.in_ok-ending.ensures.over (rw r.start.policy_is at c.in_ok-ending.ensures.ok) in
-    rw p.1 (IfSome_then (left_of packets file) whole (λ l told captured known. cut_end _ _ _ _ _ _ r.unused.none_gathered c.play_link.ensures.kept_sink.begins c.in_err-finish.ensures.kept.begins (told.records captured known) c.in_err-finish.ensures.cut))
+    rw p.1 (IfSome_then (left_of packets file) whole (λ l told captured known. cut_end _ _ _ _ _ _ r.unused.none_gathered c.play_link.ensures.keeps.kept_sink.begins c.in_err-finish.ensures.kept.begins (told.records captured known) c.in_err-finish.ensures.cut))
 
 pub returns-in_err-finish-clause-amid : goal.returns-in_err-finish-clause-amid
 returns-in_err-finish-clause-amid g c =

@@ -4,5 +4,5 @@ use Rattle.zovatsemo.proofs.front.run_blocks.Goals as goal
 
 pub returns-in-Ok-clause-answer : goal.returns-in-Ok-clause-answer
 returns-in-Ok-clause-answer g c =
-    block_answered_so (g.S.Shelf.content c.args.shelf.now) _ c.block_run.result (g.K.Sink.written c.args.sink.now) (g.K.Sink.written c.block_run.new.sink) _ _
-    (same_block_form c.deref.result.now c.in-Ok.words.items c.args.options.now (search rules) c.in-Ok.ensures) c.block_run.ensures.answer
+    block_answered_so (g.S.Shelf.content c.args.shelf.now) _ c.block_run_to.result (g.K.Sink.written c.args.sink.now) (g.K.Sink.written c.block_run_to.new.sink) _ _
+    (same_block_form c.deref.result.now c.in-Ok.words.items c.args.options.now (search rules) c.in-Ok.ensures) (λ contents told. (c.block_run_to.ensures.told contents told).answer)

@@ -1,31 +1,34 @@
-use Rattle.packet_core.proofs.Prelude.{◌∙◌, ap, arith, length, map, length-map, class_in, Class, meets_all, numbers_of, is_met}
-use Rattle.packet_core.proofs.WithinBounds.{one_more}
-use Rattle.packet_core.proofs.Prepare.{SoFar, are-same, gives-each, as-many, prepared-all}
+use Rattle.std.specs.Option.{IfSome}
+use Rattle.std.proofs.Common.{true≢false, Vec, Global}
+use Rattle.packet_core.proofs.Prelude.{◌∙◌, ◌≡◌, sym, ap, arith, subst, length, List, Option, length-map, Written, classes_of, one_asks, AreBounds}
+use Rattle.packet_core.specs.declared.prepared.Prepared.{Prepared}
+use Rattle.packet_core.proofs.Prepare.{are-same, are-tested}
+use Rattle.packet_core.proofs.FirstClass.{gives-each}
 use Rattle.packet_core.proofs.classifier.Classifier.new.Goals as goal
 
-pub loop-class-preserved : goal.loop-class-preserved
-loop-class-preserved c = record {
-  so = λ fields n. ap (map (is_met (numbers_of fields n))) c.in_ok-push.ensures.items
-      ∙ one_more (is_met (numbers_of fields n)) (λ (p : Class). meets_all fields n p.conditions) c.loop-class.classes.items c.classes-class-items.result.now c.loop-class.class-index c.in_ok-prepare.field-0 c.class-item.result
-      (c.loop-class.invariant.so fields n) c.loop-class-test.true
-      (c.in_ok-prepare.ensures fields n ∙ ap (meets_all fields n) c.as_slice.ensures ∙ ap (λ (p : Class). meets_all fields n p.conditions) c.class-item.is);
-}
+pub invariant_of-result : goal.invariant_of-result
+invariant_of-result c =
+    let given = c.classes-given.result.now in
+    let p = c.args.policy.now in
+    record {
+      same = λ _. are-same p.conditions given c.in-Some.classes.items c.classes-given.ensures.conditions
+          (subst (λ (o : Option (Vec Prepared Global)). IfSome o (λ classes. AreBounds classes.items given)) c.in-Some.is c.in_ok-classes.ensures);
+      tests = λ e. absurd (true≢false e);
+      asked = λ e. ap (λ (cs : List (List (List Written))). one_asks (classes_of cs)) (sym c.classes-given.ensures.conditions) ∙ sym c.one_asks.ensures ∙ e;
+      given = gives-each p.conditions c.classes-given.ensures.catch_all;
+      count = ap length (sym c.classes-given.ensures.conditions) ∙ length-map given _ ∙ sym (length-map given _) ∙ ap length c.classes-given.ensures.classes;
+      few = omega (arith, c.classes-given.ensures.few, sym (length-map given _) ∙ ap length c.classes-given.ensures.classes);
+    }
 
-all : (c : goal.After-loop-class) → SoFar c.loop-class.classes.items c.classes-class-items.result.now
-all c = prepared-all c.classes-class-items.result.now c.loop-class.classes.items c.loop-class.class-index c.loop-class.invariant.so c.loop-class-test.false
-
-pub invariant_of-result-clause-same : goal.invariant_of-result-clause-same
-invariant_of-result-clause-same c =
-    are-same c.args.policy.now.conditions c.classes-class-items.result.now c.loop-class.classes.items c.classes-class-items.ensures.conditions (all c)
-
-pub invariant_of-result-clause-given : goal.invariant_of-result-clause-given
-invariant_of-result-clause-given c =
-    gives-each c.args.policy.now.conditions c.classes-class-items.result.now c.classes-class-items.ensures.conditions c.classes-class-items.ensures.catch_all
-
-pub invariant_of-result-clause-count : goal.invariant_of-result-clause-count
-invariant_of-result-clause-count c =
-    let given = c.classes-class-items.result.now in
-    omega (arith, as-many given c.loop-class.classes.items (all c), length-map given (class_in c.args.policy.now.policy.tree), ap length c.classes-class-items.ensures.classes)
-
-pub invariant_of-result-clause-few : goal.invariant_of-result-clause-few
-invariant_of-result-clause-few c = omega (arith, as-many c.classes-class-items.result.now c.loop-class.classes.items (all c), c.classes-class-items.ensures.few)
+pub invariant_of-result-in-None : goal.invariant_of-result-in-None
+invariant_of-result-in-None c =
+    let given = c.classes-given.result.now in
+    let p = c.args.policy.now in
+    record {
+      same = λ e. absurd (true≢false (sym e));
+      tests = λ _. are-tested p.conditions given c.in_ok-tested_classes-in-None.field-0.items c.classes-given.ensures.conditions c.in_ok-tested_classes-in-None.ensures;
+      asked = λ e. ap (λ (cs : List (List (List Written))). one_asks (classes_of cs)) (sym c.classes-given.ensures.conditions) ∙ sym c.one_asks-in-None.ensures ∙ e;
+      given = gives-each p.conditions c.classes-given.ensures.catch_all;
+      count = ap length (sym c.classes-given.ensures.conditions) ∙ length-map given _ ∙ sym (length-map given _) ∙ ap length c.classes-given.ensures.classes;
+      few = omega (arith, c.classes-given.ensures.few, sym (length-map given _) ∙ ap length c.classes-given.ensures.classes);
+    }

@@ -1,6 +1,6 @@
-use Rattle.pcapng_core.proofs.Prelude.{◌≡◌, ◌∙◌, arith, Some, None, IfSome, common_steps, broken, front_of, packet_told, fault_in, carry_of, rest_left, IsOver, NgFault}
+use Rattle.pcapng_core.proofs.Prelude.{◌≡◌, ◌∙◌, ap, sym, Carried, arith, Some, None, IfSome, common_steps, broken, front_of, packet_told, fault_in, carry_of, rest_left, IsOver, NgFault}
 use Rattle.pcapng_core.proofs.FoundBlocks.{some-map}
-use Rattle.pcapng_core.proofs.Packets.{goes-more, goes-over, goes-broken}
+use Rattle.pcapng_core.proofs.Packets.{goes-more, goes-over, goes-leaves, goes-broken}
 use Rattle.pcapng_core.proofs.Refusals.{err-passed}
 use Rattle.pcapng_core.proofs.reader.NgReader.read_packet.Goals as goal
 
@@ -20,8 +20,15 @@ returns-in_err-read_block-clause-fault g c =
 
 pub returns-in-End-clause-ended : goal.returns-in-End-clause-ended
 returns-in-End-clause-ended g c =
-    goes-over (carry_of c.args.self.now) (carry_of c.loop-packet.self) _ _ c.loop-packet.invariant.goes_on
-    (c.in_ok-read_block.ensures.ended c.in-End.is) (c.in_ok-read_block.ensures.same c.in-End.is).1
+    let e = c.in_ok-read_block.ensures in
+    let end = e.ended c.in-End.is in
+    let same = e.same c.in-End.is in
+    let before = rest_left c.loop-packet.self (g.S.Shelf.left c.loop-packet.shelf) in
+    record {
+      ended = goes-over (carry_of c.args.self.now) (carry_of c.loop-packet.self) _ _ c.loop-packet.invariant.goes_on end.ended same.1;
+      over = goes-leaves (carry_of c.args.self.now) (carry_of c.loop-packet.self) _ before _ c.loop-packet.invariant.goes_on end.over;
+      came = λ none. same.1 (ap (λ (k : Carried). k.blocks) (sym same.0) ∙ none);
+    }
 
 pub returns-in-Packet-clause-found : goal.returns-in-Packet-clause-found
 returns-in-Packet-clause-found g c =

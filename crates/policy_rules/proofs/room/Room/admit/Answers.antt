@@ -9,7 +9,10 @@ pub returns-in-Transaction-clause-room : goal.returns-in-Transaction-clause-room
 returns-in-Transaction-clause-room c = λ told earlier line room. room_opened earlier line _ _ (ap sense_of c.in-Transaction.is) room refl (omega arith) (omega arith) (c.take_one.ensures.one told) refl refl
 
 pub returns-in-Class-clause-room : goal.returns-in-Class-clause-room
-returns-in-Class-clause-room c = λ told earlier line room. room_for earlier line _ _ (ap sense_of c.in-Class.is) room refl (c.take_one-in-Class.ensures.one told) (omega arith) (omega arith) (omega arith) (omega arith)
+returns-in-Class-clause-room c = λ told earlier line room. elim c.in-Class.is [
+  | inl (n, a, cs, is) ↦ room_for earlier line _ _ (ap sense_of is) room refl (c.take_one-in-Class.ensures.one told) (omega arith) (omega arith) (omega arith) (omega arith)
+  | inr (n, a, ts, is) ↦ room_for earlier line _ _ (ap sense_of is) room refl (c.take_one-in-Class.ensures.one told) (omega arith) (omega arith) (omega arith) (omega arith)
+]
 
 pub returns-in-Leaf-clause-room : goal.returns-in-Leaf-clause-room
 returns-in-Leaf-clause-room c = λ told earlier line room. elim c.in-Leaf.is [

@@ -8,9 +8,12 @@ returns-in_ok-add-in-Transaction c = λ earlier line are new.
     (c.in_ok-add-in-Transaction.ensures.ok ∙ ap (with_name c.args.self.now.transactions) c.as_str.ensures)
 
 pub returns-in_ok-add-in-Class : goal.returns-in_ok-add-in-Class
-returns-in_ok-add-in-Class c = λ earlier line are new.
-    class-more earlier c.args.self.now are line c.args.statement.now new c.in-Class.name _ _ c.add-in-Class.new.self (ap sense_of c.in-Class.is)
-    (c.in_ok-add-in-Class.ensures.ok ∙ ap (with_name c.args.self.now.classes) c.as_str-in-Class.ensures)
+returns-in_ok-add-in-Class c = λ earlier line are new. elim c.in-Class.is [
+  | inl (a, cs, is) ↦ class-more earlier c.args.self.now are line c.args.statement.now new c.in-Class.name c.add-in-Class.new.self _ (ap sense_of is) refl refl refl refl
+      (c.in_ok-add-in-Class.ensures.ok ∙ ap (with_name c.args.self.now.classes) c.as_str-in-Class.ensures)
+  | inr (a, ts, is) ↦ class-more earlier c.args.self.now are line c.args.statement.now new c.in-Class.name c.add-in-Class.new.self _ (ap sense_of is) refl refl refl refl
+      (c.in_ok-add-in-Class.ensures.ok ∙ ap (with_name c.args.self.now.classes) c.as_str-in-Class.ensures)
+]
 
 pub returns-in_ok-add-in-Leaf : goal.returns-in_ok-add-in-Leaf
 returns-in_ok-add-in-Leaf c = λ earlier line are new. elim c.in-Leaf.is [

@@ -10,12 +10,26 @@ returns-in-Some-clause-next g c =
     let n = g.R.CaptureReader.given a.reader in
     let bytes = g.R.CaptureReader.captured_of c.next_in_place.new.self c.next_in_place.new.into.items in
     let read = c.in-Some.read in
+    let r = rw c.in-Some.is at e.reads in
     let p = c.put_packet.ensures in
-    let packet : c.put_packet.new.packet ≡ packet_of (policy_of a.classifier) (n + 1) (packet_told read bytes) = rw (rw c.in-Some.is at e.number, c.captured-captured.ensures, c.deref.ensures.value) at p.packet in
+    let packet : c.put_packet.new.packet ≡ packet_of (policy_of a.classifier) (n + 1) (packet_told read bytes) = rw (r.1.number, c.captured-captured.ensures, c.deref.ensures.value) at p.packet in
     let sendable : IsSendable (policy_of a.classifier).policy c.put_packet.new.packet = record {
       known = p.known;
-      moment = omega (arith, p.moment, rw c.in-Some.is at e.moment);
+      moment = omega (arith, p.moment, r.1.moment);
     } in
     rw (c.if-self.false) (next_of_record (policy_of a.classifier) n (g.R.CaptureReader.left a.reader (g.S.Shelf.left c.args.source.now)) (g.R.CaptureReader.left c.next_in_place.new.self (g.S.Shelf.left c.next_in_place.new.shelf))
-    read c.put_packet.new.packet bytes packet (rw c.in-Some.is at e.comes) sendable
-    (omega (arith, rw c.in-Some.is at e.captured, rw c.in-Some.is at e.short)))
+    read c.put_packet.new.packet bytes packet r.0 sendable
+    (omega (arith, r.1.captured, r.1.short)))
+
+pub returns-in-Some-clause-given : goal.returns-in-Some-clause-given
+returns-in-Some-clause-given g c = rw c.in-Some.is at c.in_ok-read.ensures.given
+
+pub returns-in-Some-clause-ready : goal.returns-in-Some-clause-ready
+returns-in-Some-clause-ready g c =
+    let e = c.in_ok-read.ensures in
+    let r = rw c.in-Some.is at e.reads in
+    record {
+      started = e.ready;
+      few = omega (arith, rw c.in-Some.is at e.given, r.1.number, r.1.few);
+      still = e.shelf.still;
+    }

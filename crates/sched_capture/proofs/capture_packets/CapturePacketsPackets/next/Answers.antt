@@ -21,6 +21,9 @@ returns-in-Ok-Some-clause-bytes g c = λ _. (next_gives g c).bytes
 pub returns-in-Ok-Some-clause-known : goal.returns-in-Ok-Some-clause-known
 returns-in-Ok-Some-clause-known g c = (next_gives g c).known
 
+pub returns-in-Ok-Some-clause-given : goal.returns-in-Ok-Some-clause-given
+returns-in-Ok-Some-clause-given g c = rw c.in-Ok-Some.field-0-is at c.in-Ok-Some.ensures.given
+
 pub returns-in-Ok-None-clause-none : goal.returns-in-Ok-None-clause-none
 returns-in-Ok-None-clause-none g c =
     let a = c.args.self.now in

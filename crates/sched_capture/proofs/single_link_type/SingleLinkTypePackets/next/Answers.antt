@@ -58,6 +58,11 @@ returns-in-Ok-Some-clause-known g c =
     let gone : c.args.self.now.ahead ≡ None = sym c.in_default.ensures.value in
     rw (gone, c.take.ensures.after) (next_gives g c).known
 
+pub returns-in-Ok-Some-clause-given : goal.returns-in-Ok-Some-clause-given
+returns-in-Ok-Some-clause-given g c =
+    let gone : c.args.self.now.ahead ≡ None = sym c.in_default.ensures.value in
+    rw (gone, c.take.ensures.after) (rw c.in-Ok-Some.field-0-is at c.in-Ok-Some.ensures.given)
+
 -- ---- a packet of another link type
 pub returns-in-Ok-Some-2-clause-fault : goal.returns-in-Ok-Some-2-clause-fault
 returns-in-Ok-Some-2-clause-fault g c =

@@ -48,8 +48,8 @@ push-requires-clause-ranks g c =
     subst (λ (l : List ℕ). AreRanks l) (sym (c.in_ok-leaf.ensures.ranks r.state r.sound r.stood.own))
     (arrives_at_a_leaf policy c.args.packet.now r.state c.requires.accepted r.sound r.has).ranks.low
 
-pub returns-clause-ok : goal.returns-clause-ok
-returns-clause-ok g c = λ s sound stood.
+pub returns-clause-state : goal.returns-clause-state
+returns-clause-state g c = λ s sound stood.
     let policy : Policy = policy_in c.args.self.now.own in
     let l : Laid = c.args.self.now.embedding in
     let after = g.F.Fabric.queues c.push.new.fabric in

@@ -16,8 +16,8 @@ totals-totals-requires g c =
     let policy = S.policy c.args.self.now.scheduler in
     let e = c.in_ok-played.ensures in
     let courses = rw c.in-Some.is at e.ok in
-    let held = rw e.kept.policy at (c.held-held.ensures c.play_events.new.under) in
-    has_totals S (heard_lines (g.P.Packets.captures c.args.packets.now c.args.source.now)) (lines_heard (g.P.Packets.captures c.args.packets.now c.args.source.now)) policy c.requires.set.accepted courses.events _ _ c.held-first.result c.held-held.result c.requires.stands c.new-self.ensures e.came courses.made (c.held-first.ensures c.args.under.now) held
+    let held = rw e.keeps.kept.policy at (c.held-held.ensures c.play_events.new.under) in
+    has_totals S (heard_lines (g.P.Packets.captures c.args.packets.now c.args.source.now)) (lines_heard (g.P.Packets.captures c.args.packets.now c.args.source.now)) policy c.requires.set.accepted courses.events _ _ c.held-first.result c.held-held.result c.requires.stands c.new-self.ensures e.keeps.came courses.made (c.held-first.ensures c.args.under.now) held
 
 pub returns-in_err-close-clause-err : goal.returns-in_err-close-clause-err
 returns-in_err-close-clause-err g c =
@@ -26,9 +26,9 @@ returns-in_err-close-clause-err g c =
     let policy = S.policy c.args.self.now.scheduler in
     let e = c.in_ok-played.ensures in
     let courses = rw c.in-Some.is at e.ok in
-    let held = rw e.kept.policy at (c.held-held.ensures c.play_events.new.under) in
+    let held = rw e.keeps.kept.policy at (c.held-held.ensures c.play_events.new.under) in
     rw (p.1) (breaks_heard S (g.P.Packets.captures c.args.packets.now c.args.source.now) policy (course_of policy c.args.pace) _ (g.met.P.Packets.there c.args.packets.now c.args.source.now) _ c.requires.set.accepted c.in-Some.ending _ c.held-first.result c.held-held.result c.play_events.new.self.version c.totals-totals.result c.new-self.ensures courses
-    (c.held-first.ensures c.args.under.now) held c.totals-totals.ensures (e.kept.version ∙ c.requires.set.version) _ c.in_err-close.ensures.cut)
+    (c.held-first.ensures c.args.under.now) held c.totals-totals.ensures (e.keeps.kept.version ∙ c.requires.set.version) _ c.in_err-close.ensures.cut)
 
 pub returns-clause-ok : goal.returns-clause-ok
 returns-clause-ok g c =
@@ -36,9 +36,9 @@ returns-clause-ok g c =
     let policy = S.policy c.args.self.now.scheduler in
     let e = c.in_ok-played.ensures in
     let courses = rw c.in-Some.is at e.ok in
-    let held = rw e.kept.policy at (c.held-held.ensures c.play_events.new.under) in
+    let held = rw e.keeps.kept.policy at (c.held-held.ensures c.play_events.new.under) in
     runs_heard S (g.P.Packets.captures c.args.packets.now c.args.source.now) policy (course_of policy c.args.pace) _ (g.met.P.Packets.there c.args.packets.now c.args.source.now) _ c.requires.set.accepted c.in-Some.ending _ c.held-first.result c.held-held.result c.play_events.new.self.version c.totals-totals.result c.new-self.ensures courses
-    (c.held-first.ensures c.args.under.now) held c.totals-totals.ensures (e.kept.version ∙ c.requires.set.version) _ c.in_ok-close.ensures.ok
+    (c.held-first.ensures c.args.under.now) held c.totals-totals.ensures (e.keeps.kept.version ∙ c.requires.set.version) _ c.in_ok-close.ensures.ok
 
 pub returns-clause-watched : goal.returns-clause-watched
 returns-clause-watched g c =

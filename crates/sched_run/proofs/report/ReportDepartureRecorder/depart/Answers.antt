@@ -1,11 +1,6 @@
 use Rattle.sched_run.proofs.Prelude.{ℕ, None, sym, List, subst, append-nil, on_err_weaker, on_ok_weaker, CutsOff, Tells, Depart, line_of}
 use Rattle.sched_run.proofs.report.ReportDepartureRecorder.depart.Goals as goal
 
-pub returns-in-None-clause-departs : goal.returns-in-None-clause-departs
-returns-in-None-clause-departs g c =
-    let e = c.depart_line.ensures in
-    record { state = e.state; value = e.value; none = e.none; taken = e.taken; untouched = e.untouched; room = e.room; asked = e.asked }
-
 pub returns-in-None-clause-recorded : goal.returns-in-None-clause-recorded
 returns-in-None-clause-recorded g c =
     let policy = g.C.Scheduler.policy c.args.scheduler.now in

@@ -9,14 +9,14 @@ pub make_arrival-requires-clause-stands : goal.make_arrival-requires-clause-stan
 make_arrival-requires-clause-stands g c =
     let one = c.requires.stands in
     let number = c.in-Ok-true.ensures.number c.in-Ok-true.field-0-test in
-    let sendable = subst (λ (q : Policy). IsSendable q c.next.new.packet) c.requires.packets (c.in-Ok-true.ensures.sendable c.in-Ok-true.field-0-test) in
+    let sendable = subst (λ (q : Policy). IsSendable q c.next.new.packet) c.requires.feeds.packets (c.in-Ok-true.ensures.sendable c.in-Ok-true.field-0-test) in
     record { state = one.state; sound = one.sound; stood = one.stood; has = can_arrive (g.C.Scheduler.policy c.args.self.now.scheduler) one.state c.next.new.packet _ number sendable one.has }
 
 pub returns-in_err-make_arrival-in-Ok-true-clause-err : goal.returns-in_err-make_arrival-in-Ok-true-clause-err
 returns-in_err-make_arrival-in-Ok-true-clause-err g c =
     let p = err_from_is_err_and c.from_residual.result c.from_residual.ensures.1 in
     let number = c.in-Ok-true.ensures.number c.in-Ok-true.field-0-test in
-    let sendable = subst (λ (q : Policy). IsSendable q c.next.new.packet) c.requires.packets (c.in-Ok-true.ensures.sendable c.in-Ok-true.field-0-test) in
+    let sendable = subst (λ (q : Policy). IsSendable q c.next.new.packet) c.requires.feeds.packets (c.in-Ok-true.ensures.sendable c.in-Ok-true.field-0-test) in
     let known = c.in-Ok-true.ensures.bytes c.in-Ok-true.field-0-test in
     rw (p.1) (record {
       packets = c.next.new.packet ∷ [];
@@ -29,7 +29,7 @@ returns-in_err-make_arrival-in-Ok-true-clause-err g c =
 pub returns-in_ok-make_arrival-in-Ok-true-clause-ok : goal.returns-in_ok-make_arrival-in-Ok-true-clause-ok
 returns-in_ok-make_arrival-in-Ok-true-clause-ok g c =
     let number = c.in-Ok-true.ensures.number c.in-Ok-true.field-0-test in
-    let sendable = subst (λ (q : Policy). IsSendable q c.next.new.packet) c.requires.packets (c.in-Ok-true.ensures.sendable c.in-Ok-true.field-0-test) in
+    let sendable = subst (λ (q : Policy). IsSendable q c.next.new.packet) c.requires.feeds.packets (c.in-Ok-true.ensures.sendable c.in-Ok-true.field-0-test) in
     let given = rw c.in-Ok-true.field-0-test at c.in-Ok-true.ensures.given in
     let known = c.in-Ok-true.ensures.bytes c.in-Ok-true.field-0-test in
     record {

@@ -10,7 +10,7 @@ use Rattle.sched_run.proofs.run.Run.arrive_rest.Goals as goal
 pub loop-ending-init : goal.loop-ending-init
 loop-ending-init g c = record {
   arrives = (0, arrives_none g.C.Scheduler (heard g.W.Recorder (g.P.Packets.captures c.args.packets.now c.args.source.now)) (heard-joined g.W.Recorder g.met.W.Recorder.joined (g.P.Packets.captures c.args.packets.now c.args.source.now)) (g.C.Scheduler.policy c.args.self.now.scheduler) _ _ _ _ _ _ _ _);
-  further = record { ready = c.requires.ready; known = λ bytes are. are; given = refl; few = c.requires.counts.few };
+  further = record { ready = c.requires.feeds.ready; known = λ bytes are. are; given = refl; few = c.requires.counts.few };
   kept = record { policy = refl; origin = refl; names = refl; version = refl; room = refl };
   fewer = omega arith;
   kept_sink = sink-same _ _ _;
@@ -59,11 +59,11 @@ loop-ending-preserved g c =
     record {
       arrives = (i.arrives.0 + 1, arrives_more S (heard g.W.Recorder (g.P.Packets.captures c.args.packets.now c.args.source.now)) (heard-joined g.W.Recorder g.met.W.Recorder.joined (g.P.Packets.captures c.args.packets.now c.args.source.now)) policy c.requires.set.accepted i.arrives.0 _ _ _ _ _ _ i.further.given i.arrives.1 one);
       further = record { ready = further.ready; known = λ bytes are. further.known bytes (i.further.known bytes are); given = omega (arith, i.further.given, further.given); few = further.few };
-      kept = continues_then S _ _ _ i.kept e.kept;
-      fewer = omega (arith, i.fewer, e.fewer);
-      kept_sink = sink-then _ _ _ _ _ i.kept_sink e.kept_sink;
-      kept_packets = keeps_then g.P.Packets _ _ _ _ _ _ i.kept_packets e.kept_packets;
-      live = e.live;
+      kept = continues_then S _ _ _ i.kept e.keeps.kept;
+      fewer = omega (arith, i.fewer, e.keeps.fewer);
+      kept_sink = sink-then _ _ _ _ _ i.kept_sink e.keeps.kept_sink;
+      kept_packets = keeps_then g.P.Packets _ _ _ _ _ _ i.kept_packets e.keeps.kept_packets;
+      live = e.keeps.live;
     }
 
 pub loop-ending-smaller : goal.loop-ending-smaller

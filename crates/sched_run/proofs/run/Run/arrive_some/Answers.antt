@@ -9,7 +9,7 @@ use Rattle.sched_run.proofs.run.Run.arrive_some.Goals as goal
 pub loop-sent-init : goal.loop-sent-init
 loop-sent-init g c = record {
   arrives = arrives_none g.C.Scheduler (heard g.W.Recorder (g.P.Packets.captures c.args.packets.now c.args.source.now)) (heard-joined g.W.Recorder g.met.W.Recorder.joined (g.P.Packets.captures c.args.packets.now c.args.source.now)) (g.C.Scheduler.policy c.args.self.now.scheduler) _ _ _ _ _ _ _ _;
-  further = record { ready = c.requires.ready; known = λ bytes are. are; given = refl; few = c.requires.counts.few };
+  further = record { ready = c.requires.feeds.ready; known = λ bytes are. are; given = refl; few = c.requires.counts.few };
   kept = record { policy = refl; origin = refl; names = refl; version = refl; room = refl };
   fewer = omega arith;
   kept_sink = sink-same _ _ _;
@@ -53,9 +53,9 @@ loop-sent-preserved g c =
     record {
       arrives = arrives_more g.C.Scheduler (heard g.W.Recorder (g.P.Packets.captures c.args.packets.now c.args.source.now)) (heard-joined g.W.Recorder g.met.W.Recorder.joined (g.P.Packets.captures c.args.packets.now c.args.source.now)) (g.C.Scheduler.policy c.args.self.now.scheduler) c.requires.set.accepted c.loop-sent._sent _ _ _ _ _ _ i.further.given i.arrives one;
       further = record { ready = further.ready; known = λ bytes are. further.known bytes (i.further.known bytes are); given = omega (arith, i.further.given, further.given); few = further.few };
-      kept = continues_then S _ _ _ i.kept e.kept;
-      fewer = omega (arith, i.fewer, e.fewer);
-      kept_sink = sink-then _ _ _ _ _ i.kept_sink e.kept_sink;
-      kept_packets = keeps_then g.P.Packets _ _ _ _ _ _ i.kept_packets e.kept_packets;
-      live = e.live;
+      kept = continues_then S _ _ _ i.kept e.keeps.kept;
+      fewer = omega (arith, i.fewer, e.keeps.fewer);
+      kept_sink = sink-then _ _ _ _ _ i.kept_sink e.keeps.kept_sink;
+      kept_packets = keeps_then g.P.Packets _ _ _ _ _ _ i.kept_packets e.keeps.kept_packets;
+      live = e.keeps.live;
     }

@@ -50,10 +50,10 @@ loop-made-preserved g c =
       makes = λ given. departures_more g.C.Scheduler (heard_anyway g.W.Recorder) (heard-joined g.W.Recorder g.met.W.Recorder.joined any_bytes) (g.C.Scheduler.policy c.args.self.now.scheduler) c.requires.set.accepted c.loop-made._made _ _ refl (i.makes given) _ (made given);
       came = e.came ∙ i.came;
       asked = omega (arith, e.asked, i.asked);
-      kept = continues_then g.C.Scheduler _ _ _ i.kept e.kept;
+      kept = continues_then g.C.Scheduler _ _ _ i.kept e.keeps.kept;
       fewer = omega (arith, i.fewer, e.fewer);
-      kept_sink = sink-then _ _ _ _ _ i.kept_sink e.kept_sink;
-      live = e.live;
+      kept_sink = sink-then _ _ _ _ _ i.kept_sink e.keeps.kept_sink;
+      live = e.keeps.live;
     }
 
 pub returns-clause-ok : goal.returns-clause-ok

@@ -1,5 +1,5 @@
 use Rattle.sched_run.proofs.Prelude.{ℕ, arith, ◌∙◌, ◌≡◌, refl, sym, subst, ap, add-one, err_from_is_err_and, sink-then, sink-same, IsHeldBelow, heard_without, no_bytes, first_drawing, load_events, load_next, Drawing}
-use Rattle.sched_run.proofs.FrameLaws.{continues_then}
+use Rattle.sched_run.proofs.FrameLaws.{continues_then, sink_cause_after}
 use Rattle.sched_run.proofs.LoadLaws.{is_drawn, load_room, load_arrivals, load_arrivals-more, load_goes, load_stops}
 use Rattle.sched_run.proofs.MadeEvents.{makes_none}
 use Rattle.sched_run.proofs.PacketsInTurn.{one_after}
@@ -37,27 +37,17 @@ pub play_drawn-requires-clause-few : goal.play_drawn-requires-clause-few
 play_drawn-requires-clause-few g c =
     omega (arith, c.loop-drawn.invariant.number, load_arrivals c.loop-drawn._drawn (first_drawing c.args.seed), c.loop-drawn-test.true, c.requires.short)
 
-pub play_drawn-requires-clause-pushes : goal.play_drawn-requires-clause-pushes
-play_drawn-requires-clause-pushes g c =
-    let S = g.C.Scheduler in
-    (load_room S (heard_without g.W.Recorder) (heard-joined g.W.Recorder g.met.W.Recorder.joined no_bytes) (S.policy c.args.self.now.scheduler) c.requires.set.accepted c.loop-drawn._drawn (first_drawing c.args.seed) _ _ (omega (arith, c.loop-drawn-test.true, c.requires.short)) c.requires.fresh c.requires.pushes c.requires.departures c.loop-drawn.invariant.made c.requires.stands).pushes_fit
-
 pub play_drawn-requires-clause-departures : goal.play_drawn-requires-clause-departures
 play_drawn-requires-clause-departures g c =
     let S = g.C.Scheduler in
-    let room = load_room S (heard_without g.W.Recorder) (heard-joined g.W.Recorder g.met.W.Recorder.joined no_bytes) (S.policy c.args.self.now.scheduler) c.requires.set.accepted c.loop-drawn._drawn (first_drawing c.args.seed) _ _ (omega (arith, c.loop-drawn-test.true, c.requires.short)) c.requires.fresh c.requires.pushes c.requires.departures c.loop-drawn.invariant.made c.requires.stands in
+    let room = load_room S (heard_without g.W.Recorder) (heard-joined g.W.Recorder g.met.W.Recorder.joined no_bytes) (S.policy c.args.self.now.scheduler) c.requires.set.accepted c.loop-drawn._drawn (first_drawing c.args.seed) _ _ (omega (arith, c.loop-drawn-test.true, c.requires.short)) c.requires.fresh c.requires.room.pushes c.requires.room.departures c.loop-drawn.invariant.made c.requires.stands in
     omega (arith, room.departures_fit)
 
-pub play_drawn-requires-clause-events : goal.play_drawn-requires-clause-events
-play_drawn-requires-clause-events g c =
+pub play_drawn-requires-clause-room : goal.play_drawn-requires-clause-room
+play_drawn-requires-clause-room g c =
     let S = g.C.Scheduler in
-    let room = load_room S (heard_without g.W.Recorder) (heard-joined g.W.Recorder g.met.W.Recorder.joined no_bytes) (S.policy c.args.self.now.scheduler) c.requires.set.accepted c.loop-drawn._drawn (first_drawing c.args.seed) _ _ (omega (arith, c.loop-drawn-test.true, c.requires.short)) c.requires.fresh c.requires.pushes c.requires.departures c.loop-drawn.invariant.made c.requires.stands in
-    omega (arith, room.events)
-
-pub play_drawn-requires-clause-dropped : goal.play_drawn-requires-clause-dropped
-play_drawn-requires-clause-dropped g c =
-    let S = g.C.Scheduler in
-    (load_room S (heard_without g.W.Recorder) (heard-joined g.W.Recorder g.met.W.Recorder.joined no_bytes) (S.policy c.args.self.now.scheduler) c.requires.set.accepted c.loop-drawn._drawn (first_drawing c.args.seed) _ _ (omega (arith, c.loop-drawn-test.true, c.requires.short)) c.requires.fresh c.requires.pushes c.requires.departures c.loop-drawn.invariant.made c.requires.stands).dropped
+    let room = load_room S (heard_without g.W.Recorder) (heard-joined g.W.Recorder g.met.W.Recorder.joined no_bytes) (S.policy c.args.self.now.scheduler) c.requires.set.accepted c.loop-drawn._drawn (first_drawing c.args.seed) _ _ (omega (arith, c.loop-drawn-test.true, c.requires.short)) c.requires.fresh c.requires.room.pushes c.requires.room.departures c.loop-drawn.invariant.made c.requires.stands in
+    record { pushes = omega (arith, room.pushes_fit); events = omega (arith, room.events); dropped = room.dropped }
 
 pub returns-in_err-play_drawn-clause-err : goal.returns-in_err-play_drawn-clause-err
 returns-in_err-play_drawn-clause-err g c =
@@ -67,6 +57,18 @@ returns-in_err-play_drawn-clause-err g c =
     let stop = rw i.kept.policy at c.in_err-play_drawn.ensures.err in
     rw (p.1) (load_stops S (heard_without g.W.Recorder) (heard-joined g.W.Recorder g.met.W.Recorder.joined no_bytes) (S.policy c.args.self.now.scheduler) c.requires.set.accepted c.loop-drawn._drawn c.args.count (first_drawing c.args.seed) c.loop-drawn.drawing _ _ _ _ _ c.loop-drawn-test.true c.requires.classes (omega (arith, c.requires.short)) refl i.drawing (omega arith) i.made
     (stop _ i.number))
+
+pub returns-in_err-play_drawn-clause-keeps : goal.returns-in_err-play_drawn-clause-keeps
+returns-in_err-play_drawn-clause-keeps g c =
+    let p = err_from_is_err_and c.from_residual.result c.from_residual.ensures.1 in
+    let i = c.loop-drawn.invariant in
+    let e = c.in_err-play_drawn.ensures.keeps in
+    rw (p.1, p.2) (record {
+      kept = continues_then g.C.Scheduler _ _ _ i.kept e.kept;
+      live = tt;
+      kept_sink = sink-then _ _ _ _ _ i.kept_sink e.kept_sink;
+      cause = sink_cause_after _ g.K.Sink.faults _ _ _ i.kept_sink.later e.cause;
+    })
 
 pub loop-drawn-preserved : goal.loop-drawn-preserved
 loop-drawn-preserved g c =
@@ -82,10 +84,10 @@ loop-drawn-preserved g c =
       drawing = rw (add-one c.loop-drawn._drawn) (next ∙ ap (λ (x : Drawing). load_next x) i.drawing);
       number = omega (arith, ap (λ (x : Drawing). x.number) next, one.number, i.number, load_arrivals-more c.loop-drawn._drawn d c.loop-drawn.drawing i.drawing);
       moment = omega (arith, ap (λ (x : Drawing). x.moment) next, one.moment, i.moment);
-      kept = continues_then S _ _ _ i.kept e.kept;
+      kept = continues_then S _ _ _ i.kept e.keeps.kept;
       fewer = omega (arith, i.fewer, e.fewer);
-      kept_sink = sink-then _ _ _ _ _ i.kept_sink e.kept_sink;
-      live = e.live;
+      kept_sink = sink-then _ _ _ _ _ i.kept_sink e.keeps.kept_sink;
+      live = e.keeps.live;
     }
 
 pub returns-clause-ok : goal.returns-clause-ok

@@ -12,7 +12,7 @@ loop-packets-init g c =
     record {
       run = link_begins S (heard g.W.Recorder (g.P.Packets.captures c.args.packets.now c.args.source.now)) (heard-joined g.W.Recorder g.met.W.Recorder.joined (g.P.Packets.captures c.args.packets.now c.args.source.now)) policy c.args.rate c.new-link.result c.new-link.ensures _ _ _ _ _ _ _ _;
       early = omega (arith, c.new-link.ensures);
-      further = record { ready = c.requires.ready; known = λ bytes are. are; given = refl; few = c.requires.counts.few };
+      further = record { ready = c.requires.feeds.ready; known = λ bytes are. are; given = refl; few = c.requires.counts.few };
       kept = record { policy = refl; origin = refl; names = refl; version = refl; room = refl };
       fewer = omega arith;
       kept_sink = sink-same _ _ _;
@@ -34,25 +34,19 @@ arrive_paced-requires-clause-stands g c =
       has = (subst (λ (n : ℕ). IsHeldBelow n ready.state.held) (sym number) ready.has.held, record { number = _; below = ready.has.held; few = ready.has.few });
     })
 
-pub arrive_paced-requires-clause-counts : goal.arrive_paced-requires-clause-counts
-arrive_paced-requires-clause-counts g c =
+pub arrive_paced-requires-clause-paced : goal.arrive_paced-requires-clause-paced
+arrive_paced-requires-clause-paced g c =
     let S = g.C.Scheduler in
     let i = c.loop-packets.invariant in
     let room = run_room S (heard g.W.Recorder (g.P.Packets.captures c.args.packets.now c.args.source.now)) (heard-joined g.W.Recorder g.met.W.Recorder.joined (g.P.Packets.captures c.args.packets.now c.args.source.now)) (S.policy c.args.self.now.scheduler) c.requires.set.accepted _ _ _ _ _ _ _ _ i.further.given i.further.few c.requires.fresh (omega arith) c.requires.stands i.run c.requires.counts in
-    record { departures_fit = room.departures_fit; few_asked = room.few_asked; few_came = omega (arith, room.came, room.few) }
+    record { going = i.going; counts = record { departures_fit = room.departures_fit; few_asked = room.few_asked; few_came = omega (arith, room.came, room.few) }; rate = c.requires.rate; early = i.early }
 
-pub arrive_paced-requires-clause-few : goal.arrive_paced-requires-clause-few
-arrive_paced-requires-clause-few g c =
+pub arrive_paced-requires-clause-room : goal.arrive_paced-requires-clause-room
+arrive_paced-requires-clause-room g c =
     let S = g.C.Scheduler in
     let i = c.loop-packets.invariant in
     let room = run_room S (heard g.W.Recorder (g.P.Packets.captures c.args.packets.now c.args.source.now)) (heard-joined g.W.Recorder g.met.W.Recorder.joined (g.P.Packets.captures c.args.packets.now c.args.source.now)) (S.policy c.args.self.now.scheduler) c.requires.set.accepted _ _ _ _ _ _ _ _ i.further.given i.further.few c.requires.fresh (omega arith) c.requires.stands i.run c.requires.counts in
-    omega (arith, room.pushes_fit, room.came, room.few)
-
-pub arrive_paced-requires-clause-dropped : goal.arrive_paced-requires-clause-dropped
-arrive_paced-requires-clause-dropped g c =
-    let S = g.C.Scheduler in
-    let i = c.loop-packets.invariant in
-    (run_room S (heard g.W.Recorder (g.P.Packets.captures c.args.packets.now c.args.source.now)) (heard-joined g.W.Recorder g.met.W.Recorder.joined (g.P.Packets.captures c.args.packets.now c.args.source.now)) (S.policy c.args.self.now.scheduler) c.requires.set.accepted _ _ _ _ _ _ _ _ i.further.given i.further.few c.requires.fresh (omega arith) c.requires.stands i.run c.requires.counts).dropped
+    record { pushes = omega (arith, room.pushes_fit, room.came, room.few); events = omega (arith, room.came, room.few, room.few_asked); dropped = room.dropped }
 
 pub loop-packets-preserved : goal.loop-packets-preserved
 loop-packets-preserved g c =
@@ -66,18 +60,18 @@ loop-packets-preserved g c =
     let came = n.came c.in-Ok-true.field-0-test in
     let known = n.bytes c.in-Ok-true.field-0-test in
     let sends = rw (i.kept.policy, c.if-over.false) at e.ok in
-    let one_came = rw c.if-over.false at e.came in
+    let one_came = rw c.if-over.false at e.counts.came in
     record {
       run = run_goes S (heard g.W.Recorder (g.P.Packets.captures c.args.packets.now c.args.source.now)) (heard-joined g.W.Recorder g.met.W.Recorder.joined (g.P.Packets.captures c.args.packets.now c.args.source.now)) policy c.requires.set.accepted _ _ _ _ _ _ _ _ i.further.given i.run _ _ _ _
           (link_goes S (heard g.W.Recorder (g.P.Packets.captures c.args.packets.now c.args.source.now)) policy c.args.rate c.loop-packets.link c.next.new.packet c.arrive_paced.new.link _ _ _ _ came (same_sends S (heard g.W.Recorder (g.P.Packets.captures c.args.packets.now c.args.source.now)) policy _ _ _ _ _ _ _ _ _ _ _ (sym given) (sends_so S (heard_gives g.W.Recorder (IsCapturedAs c.next.new.packet c.captured-captured.result.now) (g.P.Packets.captures c.args.packets.now c.args.source.now) (λ bytes are. known bytes (i.further.known bytes are) ∙ sym c.captured-captured.ensures)) policy _ _ _ _ (sends _ number))));
-      early = e.early;
+      early = e.paces.early;
       further = record { ready = n.ready; known = λ bytes are. n.known bytes (i.further.known bytes are); given = omega (arith, i.further.given, given, one_came); few = n.few };
-      kept = continues_then S _ _ _ i.kept e.kept;
+      kept = continues_then S _ _ _ i.kept e.keeps.kept;
       fewer = omega (arith, i.fewer, e.fewer);
-      kept_sink = sink-then _ _ _ _ _ i.kept_sink e.kept_sink;
+      kept_sink = sink-then _ _ _ _ _ i.kept_sink e.keeps.kept_sink;
       kept_packets = keeps_then g.P.Packets _ _ _ _ _ _ i.kept_packets (record { policy = n.policy; later = n.later });
-      going = e.over ∙ c.if-over.false;
-      live = e.live;
+      going = e.paces.over ∙ c.if-over.false;
+      live = e.keeps.live;
     }
 
 pub returns-in_err-over-in-Ok-true-clause-err : goal.returns-in_err-over-in-Ok-true-clause-err
@@ -100,12 +94,12 @@ send_until-requires-clause-stands g c =
     let ready = run_ready S (heard g.W.Recorder (g.P.Packets.captures c.args.packets.now c.args.source.now)) (heard-joined g.W.Recorder g.met.W.Recorder.joined (g.P.Packets.captures c.args.packets.now c.args.source.now)) (S.policy c.args.self.now.scheduler) c.requires.set.accepted _ _ _ _ _ _ _ _ i.further.given i.further.few c.requires.fresh (omega arith) c.requires.stands i.run in
     rw i.kept.policy (record { state = ready.state; sound = ready.sound; stood = ready.stood; has = record { number = _; below = ready.has.held; few = ready.has.few } })
 
-pub send_until-requires-clause-counts : goal.send_until-requires-clause-counts
-send_until-requires-clause-counts g c =
+pub send_until-requires-clause-paced : goal.send_until-requires-clause-paced
+send_until-requires-clause-paced g c =
     let S = g.C.Scheduler in
     let i = c.loop-packets.invariant in
     let room = run_room S (heard g.W.Recorder (g.P.Packets.captures c.args.packets.now c.args.source.now)) (heard-joined g.W.Recorder g.met.W.Recorder.joined (g.P.Packets.captures c.args.packets.now c.args.source.now)) (S.policy c.args.self.now.scheduler) c.requires.set.accepted _ _ _ _ _ _ _ _ i.further.given i.further.few c.requires.fresh (omega arith) c.requires.stands i.run c.requires.counts in
-    record { departures_fit = room.departures_fit; few_asked = room.few_asked; few_came = omega (arith, room.came, room.few) }
+    record { going = i.going; counts = record { departures_fit = room.departures_fit; few_asked = room.few_asked; few_came = omega (arith, room.came, room.few) }; rate = c.requires.rate; early = i.early }
 
 pub returns-in_err-over-in-Ok-false-clause-err : goal.returns-in_err-over-in-Ok-false-clause-err
 returns-in_err-over-in-Ok-false-clause-err g c =

@@ -19,15 +19,15 @@ depart_some-requires-clause-stands g c =
     let one = c.requires.stands in
     let at = one_after S (heard_without g.W.Recorder) (heard-joined g.W.Recorder g.met.W.Recorder.joined no_bytes) (S.policy c.args.self.now.scheduler) c.requires.set.accepted (load_events c.args.count (first_drawing c.args.seed)) _ _ (omega (arith, e.ok.came)) e.ok
     (record { state = one.state; sound = one.sound; stood = one.stood; has = one.has.held }) in
-    rw e.kept.policy (record { state = at.state; sound = at.sound; stood = at.stood; has = tt })
+    rw e.keeps.kept.policy (record { state = at.state; sound = at.sound; stood = at.stood; has = tt })
 
 pub depart_some-requires-clause-few : goal.depart_some-requires-clause-few
 depart_some-requires-clause-few g c =
     let S = g.C.Scheduler in
     let policy = S.policy c.args.self.now.scheduler in
     let e = c.in_ok-play_drawings.ensures in
-    let waiting = rw e.kept.policy at (c.held-waiting.ensures c.play_drawings.new.under) in
-    let room = load_room S (heard_without g.W.Recorder) (heard-joined g.W.Recorder g.met.W.Recorder.joined no_bytes) policy c.requires.set.accepted c.args.count (first_drawing c.args.seed) _ _ c.requires.short c.new-self.ensures c.requires.pushes c.requires.departures e.ok c.requires.stands in
+    let waiting = rw e.keeps.kept.policy at (c.held-waiting.ensures c.play_drawings.new.under) in
+    let room = load_room S (heard_without g.W.Recorder) (heard-joined g.W.Recorder g.met.W.Recorder.joined no_bytes) policy c.requires.set.accepted c.args.count (first_drawing c.args.seed) _ _ c.requires.short c.new-self.ensures c.requires.room.pushes c.requires.room.departures e.ok c.requires.stands in
     let held = load_held S (heard_without g.W.Recorder) (heard-joined g.W.Recorder g.met.W.Recorder.joined no_bytes) policy c.requires.set.accepted c.args.count (first_drawing c.args.seed) _ _ c.held-waiting.result c.requires.short e.ok c.requires.stands waiting in
     omega (arith, room.departures_fit, held)
 
@@ -36,8 +36,8 @@ depart_some-requires-clause-events g c =
     let S = g.C.Scheduler in
     let policy = S.policy c.args.self.now.scheduler in
     let e = c.in_ok-play_drawings.ensures in
-    let waiting = rw e.kept.policy at (c.held-waiting.ensures c.play_drawings.new.under) in
-    let room = load_room S (heard_without g.W.Recorder) (heard-joined g.W.Recorder g.met.W.Recorder.joined no_bytes) policy c.requires.set.accepted c.args.count (first_drawing c.args.seed) _ _ c.requires.short c.new-self.ensures c.requires.pushes c.requires.departures e.ok c.requires.stands in
+    let waiting = rw e.keeps.kept.policy at (c.held-waiting.ensures c.play_drawings.new.under) in
+    let room = load_room S (heard_without g.W.Recorder) (heard-joined g.W.Recorder g.met.W.Recorder.joined no_bytes) policy c.requires.set.accepted c.args.count (first_drawing c.args.seed) _ _ c.requires.short c.new-self.ensures c.requires.room.pushes c.requires.room.departures e.ok c.requires.stands in
     let held = load_held S (heard_without g.W.Recorder) (heard-joined g.W.Recorder g.met.W.Recorder.joined no_bytes) policy c.requires.set.accepted c.args.count (first_drawing c.args.seed) _ _ c.held-waiting.result c.requires.short e.ok c.requires.stands waiting in
     omega (arith, room.events, held)
 
@@ -46,8 +46,8 @@ returns-in_err-depart_some-clause-err g c =
     let p = err_from_is_err_and c.from_residual-in_err-depart_some.result c.from_residual-in_err-depart_some.ensures.1 in
     let S = g.C.Scheduler in
     let e = c.in_ok-play_drawings.ensures in
-    let waiting = rw e.kept.policy at (c.held-waiting.ensures c.play_drawings.new.under) in
-    let stop = λ (given : ℕ). stops_so S (heard_gives g.W.Recorder any_bytes no_bytes (λ bytes none. tt)) (S.policy c.args.self.now.scheduler) (replicate c.held-waiting.result (Depart None)) _ _ _ _ ((rw e.kept.policy at c.in_err-depart_some.ensures.err) given) in
+    let waiting = rw e.keeps.kept.policy at (c.held-waiting.ensures c.play_drawings.new.under) in
+    let stop = λ (given : ℕ). stops_so S (heard_gives g.W.Recorder any_bytes no_bytes (λ bytes none. tt)) (S.policy c.args.self.now.scheduler) (replicate c.held-waiting.result (Depart None)) _ _ _ _ ((rw e.keeps.kept.policy at c.in_err-depart_some.ensures.err) given) in
     rw (p.1) (load_stops_draining S (heard_without g.W.Recorder) (heard-joined g.W.Recorder g.met.W.Recorder.joined no_bytes) (S.policy c.args.self.now.scheduler) c.requires.set.accepted c.args.seed c.args.count _ c.new-self.ensures _ c.held-waiting.result (omega arith) e.ok waiting _ _ _ (stop _))
 
 pub totals-requires : goal.totals-requires
@@ -56,9 +56,9 @@ totals-requires g c =
     let policy = S.policy c.args.self.now.scheduler in
     let e = c.in_ok-play_drawings.ensures in
     let d = c.in_ok-depart_some.ensures in
-    let more = λ (given : ℕ). makes_so S (heard_gives g.W.Recorder any_bytes no_bytes (λ bytes none. tt)) (S.policy c.args.self.now.scheduler) (replicate c.held-waiting.result (Depart None)) _ _ ((rw e.kept.policy at d.ok) given) in
-    let held = rw (d.kept.policy ∙ e.kept.policy) at (c.held-held.ensures c.depart_some.new.under) in
-    let room = load_room S (heard_without g.W.Recorder) (heard-joined g.W.Recorder g.met.W.Recorder.joined no_bytes) policy c.requires.set.accepted c.args.count (first_drawing c.args.seed) _ _ c.requires.short c.new-self.ensures c.requires.pushes c.requires.departures e.ok c.requires.stands in
+    let more = λ (given : ℕ). makes_so S (heard_gives g.W.Recorder any_bytes no_bytes (λ bytes none. tt)) (S.policy c.args.self.now.scheduler) (replicate c.held-waiting.result (Depart None)) _ _ ((rw e.keeps.kept.policy at d.ok) given) in
+    let held = rw (d.keeps.kept.policy ∙ e.keeps.kept.policy) at (c.held-held.ensures c.depart_some.new.under) in
+    let room = load_room S (heard_without g.W.Recorder) (heard-joined g.W.Recorder g.met.W.Recorder.joined no_bytes) policy c.requires.set.accepted c.args.count (first_drawing c.args.seed) _ _ c.requires.short c.new-self.ensures c.requires.room.pushes c.requires.room.departures e.ok c.requires.stands in
     let made = makes_both S (heard_without g.W.Recorder) (heard-joined g.W.Recorder g.met.W.Recorder.joined no_bytes) policy c.requires.set.accepted (load_events c.args.count (first_drawing c.args.seed)) (replicate c.held-waiting.result (Depart None)) _ _ _ (omega arith) e.ok (more _) in
     has_totals S (heard_without g.W.Recorder) (heard-joined g.W.Recorder g.met.W.Recorder.joined no_bytes) policy c.requires.set.accepted (load_events c.args.count (first_drawing c.args.seed) ++ replicate c.held-waiting.result (Depart None)) _ _ c.held-first.result c.held-held.result c.requires.stands c.new-self.ensures (omega (arith, d.came, room.events)) made (c.held-first.ensures c.args.under.now) held
 
@@ -67,8 +67,8 @@ returns-clause-ok g c =
     let S = g.C.Scheduler in
     let e = c.in_ok-play_drawings.ensures in
     let d = c.in_ok-depart_some.ensures in
-    let waiting = rw e.kept.policy at (c.held-waiting.ensures c.play_drawings.new.under) in
-    let more = λ (given : ℕ). makes_so S (heard_gives g.W.Recorder any_bytes no_bytes (λ bytes none. tt)) (S.policy c.args.self.now.scheduler) (replicate c.held-waiting.result (Depart None)) _ _ ((rw e.kept.policy at d.ok) given) in
-    let held = rw (d.kept.policy ∙ e.kept.policy) at (c.held-held.ensures c.depart_some.new.under) in
+    let waiting = rw e.keeps.kept.policy at (c.held-waiting.ensures c.play_drawings.new.under) in
+    let more = λ (given : ℕ). makes_so S (heard_gives g.W.Recorder any_bytes no_bytes (λ bytes none. tt)) (S.policy c.args.self.now.scheduler) (replicate c.held-waiting.result (Depart None)) _ _ ((rw e.keeps.kept.policy at d.ok) given) in
+    let held = rw (d.keeps.kept.policy ∙ e.keeps.kept.policy) at (c.held-held.ensures c.depart_some.new.under) in
     load_done S (heard_without g.W.Recorder) (heard-joined g.W.Recorder g.met.W.Recorder.joined no_bytes) (S.policy c.args.self.now.scheduler) c.requires.set.accepted c.args.seed c.args.count _ c.new-self.ensures _ c.held-waiting.result (omega arith) e.ok waiting _ c.held-first.result c.held-held.result _ c.totals.result (more _) (c.held-first.ensures c.args.under.now) held
-    c.totals.ensures (d.kept.version ∙ e.kept.version ∙ c.requires.set.version)
+    c.totals.ensures (d.keeps.kept.version ∙ e.keeps.kept.version ∙ c.requires.set.version)

@@ -11,7 +11,7 @@ use Rattle.sched_run.proofs.run.Run.play_steps.Goals as goal
 pub loop-step-init : goal.loop-step-init
 loop-step-init g c = record {
   run = run_none g.C.Scheduler (heard g.W.Recorder (g.P.Packets.captures c.args.packets.now c.args.source.now)) (heard-joined g.W.Recorder g.met.W.Recorder.joined (g.P.Packets.captures c.args.packets.now c.args.source.now)) (g.C.Scheduler.policy c.args.self.now.scheduler) (script_agenda (g.C.Scheduler.policy c.args.self.now.scheduler) c.args.steps.now) (counts_of c.args.steps.now) _ _ _ _ _ _ _ _;
-  further = record { ready = c.requires.ready; known = λ bytes are. are; given = refl; few = c.requires.counts.few };
+  further = record { ready = c.requires.feeds.ready; known = λ bytes are. are; given = refl; few = c.requires.counts.few };
   kept = record { policy = refl; origin = refl; names = refl; version = refl; room = refl };
   fewer = omega arith;
   kept_sink = sink-same _ _ _;
@@ -68,11 +68,11 @@ loop-step-preserved g c =
       run = rw (add-one c.loop-step.step-index) (run_goes S (heard g.W.Recorder (g.P.Packets.captures c.args.packets.now c.args.source.now)) (heard-joined g.W.Recorder g.met.W.Recorder.joined (g.P.Packets.captures c.args.packets.now c.args.source.now)) (S.policy c.args.self.now.scheduler) c.requires.set.accepted _ _ _ _ _ _ _ _ i.further.given run _ _ _ _
           (step_goes S (heard g.W.Recorder (g.P.Packets.captures c.args.packets.now c.args.source.now)) (S.policy c.args.self.now.scheduler) _ rest _ _ _ _ turns));
       further = record { ready = further.ready; known = λ bytes are. further.known bytes (i.further.known bytes are); given = omega (arith, i.further.given, further.given); few = further.few };
-      kept = continues_then S _ _ _ i.kept e.kept;
-      fewer = omega (arith, i.fewer, e.fewer);
-      kept_sink = sink-then _ _ _ _ _ i.kept_sink e.kept_sink;
-      kept_packets = keeps_then g.P.Packets _ _ _ _ _ _ i.kept_packets e.kept_packets;
-      live = e.live;
+      kept = continues_then S _ _ _ i.kept e.keeps.kept;
+      fewer = omega (arith, i.fewer, e.keeps.fewer);
+      kept_sink = sink-then _ _ _ _ _ i.kept_sink e.keeps.kept_sink;
+      kept_packets = keeps_then g.P.Packets _ _ _ _ _ _ i.kept_packets e.keeps.kept_packets;
+      live = e.keeps.live;
     }
 
 pub returns-clause-ok : goal.returns-clause-ok

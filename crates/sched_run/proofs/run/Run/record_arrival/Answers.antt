@@ -11,8 +11,8 @@ returns-in_err-arrival-clause-err g c =
     let S = g.C.Scheduler in
     let pushes : S.pushes c.arrive.new.self ≡ S.pushes c.args.self.now.scheduler = omega (arith, c.in_err-arrival.ensures.pushes) in
     rw (p.1) (λ s sound stood. record {
-      leaves = made_some_none S (S.policy c.args.self.now.scheduler) (Arrive c.args.packet.now ∷ []) s (c.in_err-arrival.ensures.err s sound stood)
-          pushes c.in_err-arrival.ensures.departures c.in_err-arrival.ensures.origin c.in_err-arrival.ensures.spilled_stays;
+      leaves = made_some_none S (S.policy c.args.self.now.scheduler) (Arrive c.args.packet.now ∷ []) s (c.in_err-arrival.ensures.state s sound stood).0
+          pushes c.in_err-arrival.ensures.departures c.in_err-arrival.ensures.kept.origin c.in_err-arrival.ensures.spilled;
       cut = cut_none S (heard_with g.W.Recorder c.args.packet.now c.args.captured.now) (heard-joined g.W.Recorder g.met.W.Recorder.joined (IsCapturedAs c.args.packet.now c.args.captured.now)) (S.policy c.args.self.now.scheduler) c.args.event (Arrive c.args.packet.now ∷ []) s c.args.self.now.recorder (g.K.Sink.written c.args.sink.now);
     })
 
@@ -73,7 +73,7 @@ returns-in_err-arrived-in-Pushed-clause-err g c =
     rw (p.1) (λ s sound stood.
     let a = answer_pushed policy c.args.packet.now s c.in-Pushed.leaf (rw c.in-Pushed.is at (e.answer s sound stood)) in
     record {
-      leaves = made_all g.C.Scheduler policy (Arrive c.args.packet.now ∷ []) (made_arrival g.C.Scheduler policy c.in_ok-arrival.arrival (e.answer s sound stood) (e.ok s sound stood) e.pushes e.departures e.origin (e.spilled s sound stood));
+      leaves = made_all g.C.Scheduler policy (Arrive c.args.packet.now ∷ []) (made_arrival g.C.Scheduler policy c.in_ok-arrival.arrival (e.answer s sound stood) (e.state s sound stood) e.pushes e.departures e.kept.origin (e.spilled s sound stood));
       cut = λ bytes h. subst (λ (os : List Outcome). g.W.Recorder.cuts bytes c.args.self.now.recorder (g.K.Sink.written c.args.sink.now) policy c.args.event os (g.K.Sink.written c.arrived.new.sink))
           (outcome_pushed policy c.args.packet.now s c.ranks.result.now a.fullness (c.ranks.ensures.ranks ∙ ranks s sound stood))
           (c.in_err-arrived-in-Pushed.ensures.cut bytes policy (class_of policy c.args.packet.now).leaf h named);
@@ -91,7 +91,7 @@ returns-in_ok-arrived-in-Pushed-clause-ok g c =
     λ s sound stood.
     let a = answer_pushed policy c.args.packet.now s c.in-Pushed.leaf (rw c.in-Pushed.is at (e.answer s sound stood)) in
     record {
-      leaves = made_arrival g.C.Scheduler policy c.in_ok-arrival.arrival (e.answer s sound stood) (e.ok s sound stood) e.pushes e.departures e.origin (e.spilled s sound stood);
+      leaves = made_arrival g.C.Scheduler policy c.in_ok-arrival.arrival (e.answer s sound stood) (e.state s sound stood) e.pushes e.departures e.kept.origin (e.spilled s sound stood);
       recorded = λ bytes h. subst (λ (os : List Outcome). g.W.Recorder.records bytes c.args.self.now.recorder (g.K.Sink.written c.args.sink.now) policy c.args.event os c.arrived.new.self (g.K.Sink.written c.arrived.new.sink))
           (outcome_pushed policy c.args.packet.now s c.ranks.result.now a.fullness (c.ranks.ensures.ranks ∙ ranks s sound stood))
           (c.in_ok-arrived-in-Pushed.ensures.ok bytes policy (class_of policy c.args.packet.now).leaf h named);
@@ -109,7 +109,7 @@ returns-in_err-dropped-in-Dropped-clause-err g c =
     rw (p.1) (λ s sound stood.
     let a = answer_dropped policy c.args.packet.now s c.in-Dropped.leaf (rw c.in-Dropped.is at (e.answer s sound stood)) in
     record {
-      leaves = made_all g.C.Scheduler policy (Arrive c.args.packet.now ∷ []) (made_arrival g.C.Scheduler policy c.in_ok-arrival.arrival (e.answer s sound stood) (e.ok s sound stood) e.pushes e.departures e.origin (e.spilled s sound stood));
+      leaves = made_all g.C.Scheduler policy (Arrive c.args.packet.now ∷ []) (made_arrival g.C.Scheduler policy c.in_ok-arrival.arrival (e.answer s sound stood) (e.state s sound stood) e.pushes e.departures e.kept.origin (e.spilled s sound stood));
       cut = λ bytes h. subst (λ (os : List Outcome). g.W.Recorder.cuts bytes c.args.self.now.recorder (g.K.Sink.written c.args.sink.now) policy c.args.event os (g.K.Sink.written c.dropped.new.sink))
           (outcome_dropped policy c.args.packet.now s a.fullness)
           (c.in_err-dropped-in-Dropped.ensures.cut bytes policy (class_of policy c.args.packet.now).leaf named);
@@ -126,7 +126,7 @@ returns-in_ok-dropped-in-Dropped-clause-ok g c =
     λ s sound stood.
     let a = answer_dropped policy c.args.packet.now s c.in-Dropped.leaf (rw c.in-Dropped.is at (e.answer s sound stood)) in
     record {
-      leaves = made_arrival g.C.Scheduler policy c.in_ok-arrival.arrival (e.answer s sound stood) (e.ok s sound stood) e.pushes e.departures e.origin (e.spilled s sound stood);
+      leaves = made_arrival g.C.Scheduler policy c.in_ok-arrival.arrival (e.answer s sound stood) (e.state s sound stood) e.pushes e.departures e.kept.origin (e.spilled s sound stood);
       recorded = λ bytes h. subst (λ (os : List Outcome). g.W.Recorder.records bytes c.args.self.now.recorder (g.K.Sink.written c.args.sink.now) policy c.args.event os c.dropped.new.self (g.K.Sink.written c.dropped.new.sink))
           (outcome_dropped policy c.args.packet.now s a.fullness)
           (c.in_ok-dropped-in-Dropped.ensures.ok bytes policy (class_of policy c.args.packet.now).leaf named);

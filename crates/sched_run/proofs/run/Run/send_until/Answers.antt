@@ -11,11 +11,11 @@ loop-sent-init g c = record {
   came = refl;
   dropped = refl;
   asked = omega arith;
-  early = c.requires.early;
+  early = c.requires.paced.early;
   kept = record { policy = refl; origin = refl; names = refl; version = refl; room = refl };
   fewer = omega arith;
   kept_sink = sink-same _ _ _;
-  going = c.requires.going;
+  going = c.requires.paced.going;
   live = c.requires.set.live;
 }
 
@@ -38,13 +38,13 @@ depart_next-requires-clause-few g c =
     let one = c.requires.stands in
     let asked = sends_asked g.C.Scheduler (heard_anyway g.W.Recorder) (heard-joined g.W.Recorder g.met.W.Recorder.joined any_bytes) (g.C.Scheduler.policy c.args.self.now.scheduler) c.requires.set.accepted c.args.rate c.args.until _ _ _ (c.held-held.ensures c.args.under.now) _ _ _ refl i.came (i.sends one.has.number)
     (record { state = one.state; sound = one.sound; stood = one.stood; has = held_more _ _ one.has.below }) in
-    omega (arith, asked, i.asked, c.loop-sent-test.true, c.held-held.ensures c.args.under.now one.state one.sound one.stood, one.has.few, c.requires.counts.departures_fit)
+    omega (arith, asked, i.asked, c.loop-sent-test.true, c.held-held.ensures c.args.under.now one.state one.sound one.stood, one.has.few, c.requires.paced.counts.departures_fit)
 
 pub depart_next-requires-clause-events : goal.depart_next-requires-clause-events
 depart_next-requires-clause-events g c =
     let i = c.loop-sent.invariant in
     let one = c.requires.stands in
-    omega (arith, i.came, i.asked, c.loop-sent-test.true, c.held-held.ensures c.args.under.now one.state one.sound one.stood, one.has.few, c.requires.counts.few_came)
+    omega (arith, i.came, i.asked, c.loop-sent-test.true, c.held-held.ensures c.args.under.now one.state one.sound one.stood, one.has.few, c.requires.paced.counts.few_came)
 
 pub take_time-requires-clause-early : goal.take_time-requires-clause-early
 take_time-requires-clause-early g c =
@@ -75,11 +75,11 @@ loop-sent-preserved g c =
       dropped = e.dropped ∙ i.dropped;
       asked = omega (arith, e.asked, i.asked);
       early = omega (arith, i.early, e.asked, c.take_time.ensures.soon);
-      kept = continues_then g.C.Scheduler _ _ _ i.kept e.kept;
+      kept = continues_then g.C.Scheduler _ _ _ i.kept e.keeps.kept;
       fewer = omega (arith, i.fewer, e.fewer);
-      kept_sink = sink-then _ _ _ _ _ i.kept_sink e.kept_sink;
+      kept_sink = sink-then _ _ _ _ _ i.kept_sink e.keeps.kept_sink;
       going = sym c.over.ensures ∙ c.if-over.false;
-      live = e.live;
+      live = e.keeps.live;
     }
 
 pub returns-then-over-clause-ok : goal.returns-then-over-clause-ok
@@ -91,10 +91,10 @@ returns-then-over-clause-ok g c =
     λ given. sends_first g.C.Scheduler (heard_anyway g.W.Recorder) (heard-joined g.W.Recorder g.met.W.Recorder.joined any_bytes) (g.C.Scheduler.policy c.args.self.now.scheduler) c.requires.set.accepted c.args.rate c.args.until _ _ _ (c.held-held.ensures c.args.under.now) _ _ _ refl i.came (i.sends given)
     c.loop-sent-test.true (sym due) g.W.Recorder.over _ i.going (made given) (sym c.over.ensures ∙ c.if-over.true)
 
-pub returns-then-over-clause-early : goal.returns-then-over-clause-early
-returns-then-over-clause-early g c =
+pub returns-then-over-clause-paces : goal.returns-then-over-clause-paces
+returns-then-over-clause-paces g c =
     let i = c.loop-sent.invariant in
-    omega (arith, i.early, c.in_ok-departed.ensures.asked, c.take_time.ensures.soon)
+    record { over = sym c.over.ensures ∙ c.if-over.true; early = omega (arith, i.early, c.in_ok-departed.ensures.asked, c.take_time.ensures.soon) }
 
 pub returns-then-over-clause-few : goal.returns-then-over-clause-few
 returns-then-over-clause-few g c =
