@@ -3,7 +3,7 @@ import fractions
 import unittest
 
 import runs
-from zovatsemo_look import assertions, guard, units
+from zovatsemo_look import assertions, guard, policy, units
 
 EVENTS_REPORT = """a 1 1 one 0
 a 2 2 one 0
@@ -46,6 +46,17 @@ class Grammar(unittest.TestCase):
             with self.subTest(text), self.assertRaises(guard.LookError) as caught:
                 assertions.Assertion(text)
             self.assertIn(said, str(caught.exception))
+
+    def test_names_of_version_3(self):
+        one = assertions.Assertion("B:web-1_a.p99 <= A:web--2.max")
+        self.assertEqual(("B", "web-1_a", ("A", "web--2")), (one.letter, one.name, one.other[:2]))
+
+    def test_classes_are_asked_in_the_version_of_their_policy(self):
+        line = "class web-1 when dport {80, 443} or not ipv4"
+        text = "policy %s # x\n" + line + "\nclass rest\nleaf root using fifo classes web-1 rest\n"
+        for version in "123":
+            asked = policy.Policy(text % version).one_leaf_a_class().splitlines()
+            self.assertEqual(["policy " + version, line, "class rest", "leaf class_0 using fifo classes web-1"], asked[:4])
 
     def test_rates(self):
         for text, rate in (("1250000", 1250000), ("10Mbit", 1250000), ("1.5mbit/s", 187500), ("8bit", 1), ("2kB", 2000),
@@ -112,6 +123,11 @@ class Verdict(runs.Case):
         status, lines, _ = self.judge("one.max <= 5 events", "one.min == 3events", "one.max < 5 events", report=report)
         self.assertEqual((status, lines[0]), (1, "1 of 3 checks failed"))
         self.assertEqual(lines[1].split(None, 1), ["FAILED", "one.max < 5 events   5 events"])
+
+    def test_a_leaf_of_version_3(self):
+        report = self.write("events", EVENTS_REPORT.replace("one", "web-1"))
+        status, lines, _ = self.judge("web-1.drops == 1", report=report)
+        self.assertEqual((status, lines[0]), (0, "0 of 1 check failed"))
 
     def test_a_leaf_without_packets_fails_on_its_delay(self):
         policy = self.write("policy", "policy 1\nclass a\nleaf web using fifo classes a\n"

@@ -51,6 +51,7 @@ class Documents(unittest.TestCase):
     def test_captures_are_made_by_their_commands(self):
         for kept, words in ((runs.TOP / "examples/uplink/capture", ()),
                             (runs.TOP / "examples/cookbook/capture", ("--tenants",)),
+                            (runs.TOP / "examples/any/capture", ("--link", "276", "--milliseconds", "40")),
                             (runs.OFFICE / "capture.pcapng", ("--of", runs.OFFICE / "capture"))):
             with tempfile.TemporaryDirectory() as folder:
                 made = pathlib.Path(folder) / "capture"

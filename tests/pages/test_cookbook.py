@@ -145,7 +145,7 @@ class Cookbook(unittest.TestCase):
             comment, _, text = policy.read_text().partition("\n")
             self.assertTrue(comment.startswith("# "))
             self.assertEqual(printed("check", policy), text)
-            self.assertIn("$ ./zovatsemo check examples/cookbook/%s\n" % policy.name, PAGE.read_text())
+            self.assertRegex(PAGE.read_text(), r"\$ ./zovatsemo check examples/cookbook/%s[\n ]" % policy.name)
 
     def test_strict_priority(self):
         events = self.link(COOKBOOK / "strict", UPLINK, TEN)

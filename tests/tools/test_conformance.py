@@ -61,6 +61,17 @@ class Conformance(unittest.TestCase):
         self.assertEqual(self.run_on("--front", "block"), (0, ["block: 1 passed, 0 failed"]))
         self.assertEqual(self.run_on("--front", "files")[0], 1)
 
+    def test_suites_of_the_program_for_people(self):
+        case = {"name": "one", "suite": "front_few", "words": ["check"], "files": {}, "stdout": {"text": "check\n"}, "status": 0}
+        (self.top / "cases/front_few.jsonl").write_text(json.dumps(case) + "\n")
+        self.place("replay_main", SCRIPT)
+        self.place("block_app", SCRIPT)
+        self.place("zovatsemo", FRONT + SCRIPT)
+        self.assertEqual(self.run_on()[1][-1], "all: 4 passed, 0 failed")
+        self.assertEqual(self.run_on("--front")[1][-1], "all: 5 passed, 0 failed")
+        self.assertEqual(self.run_on("--front", "front_few"), (0, ["front_few: 1 passed, 0 failed"]))
+        self.assertEqual(self.run_on("front_few"), (2, ["conformance: the suite front_few needs --front"]))
+
     def test_a_program_that_answers_otherwise(self):
         self.place("replay_main", SCRIPT)
         for lines in (SCRIPT, "exit 0\n", FRONT + "exit 0\n", FRONT + SCRIPT + "exit 1\n"):
@@ -74,6 +85,28 @@ class Conformance(unittest.TestCase):
         status, told = self.run_on("--front", "option")
         self.assertEqual((status, told[0]), (1, "one: --plain -- check --help -"))
         self.assertIn("    again: tools/conformance --front --only one option", told)
+
+    def answer_otherwise(self, **answer):
+        """Has the program for people answer a case of `files` otherwise."""
+        (self.top / "cases/front").mkdir(exist_ok=True)
+        answers = [{"suite": "files", "name": "one", "why": "It may.", "stdout": {"text": "another\n"}, "status": 0, **answer}]
+        (self.top / "cases/front/answers.json").write_text(json.dumps(answers))
+
+    def test_an_answer_of_the_program_for_people(self):
+        self.place("replay_main", SCRIPT)
+        self.place("zovatsemo", "echo another\n")
+        self.assertEqual(self.run_on("--front", "files")[0], 1)
+        self.answer_otherwise()
+        self.assertEqual(self.run_on("--front", "files"), (0, ["files: 1 passed, 0 failed"]))
+        self.assertEqual(self.run_on("files"), (0, ["files: 1 passed, 0 failed"]))
+        self.assertEqual(self.run_on("--front", "few")[0], 1)
+
+    def test_an_answer_that_cannot_be_meant(self):
+        self.place("zovatsemo", FRONT + SCRIPT)
+        for answer in ({"name": "two"}, {"why": ""}, {"stdout": {"text": "check policy\n"}}):
+            self.answer_otherwise(**answer)
+            self.assertEqual(self.run_on("--front", "files")[0], 2, answer)
+            self.assertEqual(self.run_on("--front", "few"), (0, ["few: 1 passed, 0 failed"]))
 
     def test_no_program(self):
         self.place("replay_main", SCRIPT)

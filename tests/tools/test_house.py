@@ -55,14 +55,14 @@ class House(unittest.TestCase):
                 over = {name for _, count, name in house.passed(made(folder, source)) if count > house.LIMITS[name]}
                 self.assertEqual({limit}, over)
 
-    def test_crates_with_bundles_have_a_limit_of_their_own(self):
-        limit = "clauses where runs begin"
-        many = "".join(f"    ensures c{n} {{ x }}\n" for n in range(house.LIMITS[limit] + 1))
-        for crate in house.BUNDLED:
-            with self.subTest(crate), tempfile.TemporaryDirectory() as folder:
-                top = made(folder, f"pub fn one()\n{many}{{\n}}\n", crate=crate)
-                over = {name for _, count, name in house.passed(top) if count > house.LIMITS[name]}
-                self.assertEqual({limit}, over)
+    def test_functions_with_many_clauses_have_limits_of_their_own(self):
+        for (crate, name), most in house.MANY_CLAUSES.items():
+            for count in (most, most + 1):
+                many = "".join(f"    ensures c{n} {{ x }}\n" for n in range(count))
+                with self.subTest(name, count=count), tempfile.TemporaryDirectory() as folder:
+                    top = made(folder, f"pub fn {name}()\n{many}{{\n}}\n", crate=crate)
+                    over = {limit for _, found, limit in house.passed(top) if found > house.LIMITS[limit]}
+                    self.assertEqual({"clauses of a function"} if count > most else set(), over)
 
     def test_crates_and_chains_are_counted(self):
         names = [f"c{n}" for n in range(house.LIMITS["crates in a chain"] + 1)]

@@ -14,7 +14,7 @@ from zovatsemo_look.texts import listed, plural
 EVERY = "all"
 OPERATORS = {"<=": operator.le, ">=": operator.ge, "<": operator.lt, ">": operator.gt, "==": operator.eq,
              "!=": operator.ne}
-SUBJECT = r"(?:([A-Z]):)?([A-Za-z_]\w*)\.([a-z]+(?:[0-9]+(?:\.[0-9]+)?)?)"
+SUBJECT = r"(?:([A-Z]):)?([A-Za-z_][\w-]*)\.([a-z]+(?:[0-9]+(?:\.[0-9]+)?)?)"
 FORM = re.compile(r"\s*%s\s*(<=|>=|==|!=|<|>)\s*([^\s=].*?)\s*" % SUBJECT, re.ASCII)
 OTHER = re.compile(SUBJECT, re.ASCII)
 PERCENTILE = re.compile(r"p([0-9]{1,3}(?:\.[0-9]{1,9})?)")

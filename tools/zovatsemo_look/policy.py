@@ -9,10 +9,12 @@ class Policy:
     """The leaves of a policy with their classes, in their order, and the lines that classify packets."""
 
     def __init__(self, text):
-        self.leaves, self.class_lines, self.classes = {}, [], []
+        self.leaves, self.class_lines, self.classes, self.version = {}, [], [], "1"
         for line in text.split("\n"):
             words = line.split("#")[0].split()
-            if words[:1] == ["leaf"] and "classes" in words:
+            if words[:1] == ["policy"] and len(words) == 2:
+                self.version = words[1]
+            elif words[:1] == ["leaf"] and "classes" in words:
                 self.leaves[words[1]] = words[words.index("classes") + 1:]
             elif words[:1] == ["class"] and len(words) > 1:
                 self.class_lines.append(" ".join(words))
@@ -23,7 +25,7 @@ class Policy:
         leaves = ["class_%d" % at for at in range(len(self.classes))]
         lines = ["leaf %s using fifo classes %s" % pair for pair in zip(leaves, self.classes)]
         root = "node root using fifo children " + " ".join(leaves)
-        return "\n".join(["policy 1", *self.class_lines, *lines, root]) + "\n"
+        return "\n".join(["policy " + self.version, *self.class_lines, *lines, root]) + "\n"
 
 
 def read_policy(name):

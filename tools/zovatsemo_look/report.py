@@ -10,8 +10,8 @@ IS_QUEUED, IS_DROPPED = 0, -1  # in place of the event at which a packet departe
 
 MOST_NAME = 64  # letters of a leaf's name
 
-MOVE = re.compile(rb"([ad]) (\d+) (\d+) (\w+) (\d+(?:/\d+)*)(?: (\d+))?\n")
-DROP = re.compile(rb"x (\d+) (\d+) (\w+)\n")
+MOVE = re.compile(rb"([ad]) (\d+) (\d+) ([\w-]+) (\d+(?:/\d+)*)(?: (\d+))?\n")
+DROP = re.compile(rb"x (\d+) (\d+) ([\w-]+)\n")
 EMPTY = re.compile(rb"e (\d+)\n")
 END = re.compile(rb"end pushed (\d+) popped (\d+) empty (\d+) held (\d+) unsent (\d+)(?: dropped (\d+))?\n")
 FAULT = re.compile(rb"fault [a-z]+ \d+ \d+\n")
