@@ -1,5 +1,6 @@
 -- The ranks with which a packet arrives are between the floors before its push and those after it.
 use Rattle.block_replay.proofs.Prelude.{refl, ◌≡◌, [], ℕ, ◌∙◌, arith, sym, ◌∷◌, List, Some, ap, subst, suc, zero, ◌≤◌, true, length, ◌++◌, false, Bool, ◌<◌, append-nil, bytes_eq, length-append, append_assoc, bytes_eq-Decides, AllByRecursion, option_map_or, Packet, IsNodeReady, AreMarksInRange, Node, node_at, Marks, no_marks, node_below, Class, fifo, Program, max_rank, max_len, State, push_rank, after_push, Child, Flow, all_joined, AreStatesInRange, IsVisitTo, visits_from-are, IsPart, root_stands, Visit, after_pushes, States, rank_at, with_state, child_marks, env_for, ranks_pushed, visit, visits_below, visits_from, Address, Tree, Trees, inner, leaf, none, more, root_of, LeadsToLeaf, LeadsBelow}
+use Rattle.rank_defs.specs.FlowGroups.{grouped}
 use Rattle.block_replay.proofs.Steady.{floor, HasMarksOf}
 use Rattle.block_replay.proofs.SteadyNodes.{HasSteadyPrograms, HaveSteadyPrograms, steady_at}
 use Rattle.block_replay.proofs.TreeFloors.{AreRanksUnder, AreRanksOver}
@@ -115,7 +116,7 @@ module _ (root : Tree Node) (steady : HasSteadyPrograms root) (ready : (a : Addr
     pub ranks_under : (t : Tree Node) (a : Address) (digits : List ℕ) (nodes : States) → IsPart root a t → HasSteadyPrograms t → LeadsToLeaf t digits → AreStatesInRange root nodes
         → AreRanksUnder (floors root (after_pushes (visits_from t a digits c p moment) nodes) moment) a digits (ranks_pushed nodes (visits_from t a digits c p moment))
     ranks_under (leaf n) a [] nodes part programs leads h =
-        let e : push_rank n.program (Flow p.flow) (env_for p moment c.marks) (nodes a) ≡ 0 = ap (λ (q : Program). push_rank q (Flow p.flow) (env_for p moment c.marks) (nodes a)) programs in
+        let e : push_rank n.program (Flow (grouped n.group p.flow)) (env_for p moment c.marks) (nodes a) ≡ 0 = ap (λ (q : Program). push_rank q (Flow (grouped n.group p.flow)) (env_for p moment c.marks) (nodes a)) programs in
         omega (arith, e)
     ranks_under (leaf n) a (i ∷ digits) nodes part programs leads h = absurd leads
     ranks_under (inner n ts) a [] nodes part programs leads h = absurd leads

@@ -24,7 +24,6 @@ fair-accepted = record {
   some_class = omega arith;
   levels = lit≤ tt;
   children = (omega arith, (tt, (tt, tt)));
-  limits = (refl, (tt, (tt, tt)));
 }
 
 stfq_is : (program : Program) → builtin (codes "stfq") ≡ Some program → stfq ≡ program

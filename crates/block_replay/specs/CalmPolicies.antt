@@ -1,11 +1,12 @@
 -- Calm policies: no packet is ranked below an earlier one of the same child, and each child has its
 -- own digit.
-use Rattle.std.specs.Prelude.{◌≡◌, refl, ℕ, Bool, true, false, not, ◌&&◌, None, List, [], ◌∷◌, length, nat_eq, slice_index, codes}
+use Rattle.std.specs.Prelude.{◌≡◌, refl, ℕ, Bool, true, false, not, ◌&&◌, List, [], ◌∷◌, length, nat_eq, slice_index, codes}
 use Rattle.std.specs.List.{list_any}
 use Rattle.tree_defs.specs.Tree.{Tree, leaf, inner, Trees, none, more, Address, root_of}
 use Rattle.tree_defs.specs.SourceTree.{SourceTree}
+use Rattle.rank_defs.specs.declared.flow_group.FlowGroup.TheVariants.{FiveTuple}
 use Rattle.rank_defs.specs.Builtins.{same_name, fifo}
-use Rattle.policy_defs.specs.Policy.{Node, no_marks}
+use Rattle.policy_defs.specs.Policy.{Node, no_marks, no_limits}
 use Rattle.embed_defs.specs.Lift.{with_transit, chain}
 use Rattle.embed_defs.specs.Spilling.{push_spills}
 
@@ -61,7 +62,7 @@ pub is_steady-longer_name : is_steady (codes "strict2") ≡ false
 is_steady-longer_name = refl
 
 abbrev pub node_using : List ℕ → Node
-node_using name = record { name = []; using = name; program = fifo; marks = no_marks; limit = None }
+node_using name = record { name = []; using = name; program = fifo; marks = no_marks; limits = no_limits; group = FiveTuple }
 
 -- a node with two leaves
 abbrev pub team_of : List ℕ → List ℕ → Tree Node

@@ -1,8 +1,9 @@
 -- Worked examples of pushes, with two leaves below a root.
 use Rattle.std.specs.Prelude.{◌≡◌, refl, ℕ, None, List, [], ◌∷◌, codes}
 use Rattle.tree_defs.specs.Tree.{Tree, leaf, inner, none, more, Address}
+use Rattle.rank_defs.specs.declared.flow_group.FlowGroup.TheVariants.{FiveTuple}
 use Rattle.rank_defs.specs.Builtins.{Builtin, named, fifo, shortest, rr, stfq}
-use Rattle.policy_defs.specs.Policy.{Policy, Node, no_marks}
+use Rattle.policy_defs.specs.Policy.{Policy, Node, no_marks, no_limits}
 use Rattle.embed_defs.specs.Spilling.{push_spills}
 use Rattle.sched_defs.specs.SourceState.{SourceState, start, arrival_ranks}
 use Rattle.sched_defs.specs.Events.{Event, Arrive, Depart, after}
@@ -10,7 +11,7 @@ use Rattle.sched_defs.specs.Rows.{packet}
 use Rattle.block_replay.specs.CalmLaws.{NoneSpills}
 
 abbrev pub node_of : Builtin → Node
-node_of b = record { name = b.name; using = b.name; program = b.program; marks = no_marks; limit = None }
+node_of b = record { name = b.name; using = b.name; program = b.program; marks = no_marks; limits = no_limits; group = FiveTuple }
 
 abbrev pub leaf_node : Tree Node
 leaf_node = leaf (node_of (named (codes "fifo") fifo))

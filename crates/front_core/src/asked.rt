@@ -287,6 +287,9 @@ fn see_command<'a>(command: Command, scan: &mut Scan<'a>) -> Result<(), Mistake<
     if scan.block && is_left_out(command) {
         return Err(Mistake::NoBlock(command));
     }
+    if scan.upgrade && command != Command::Check {
+        return Err(Mistake::NoUpgrade(command));
+    }
     if command == Command::Replay {
         take_pairs(scan)?;
     } else if !scan.taps.is_empty() {
@@ -320,6 +323,7 @@ fn request_of<'a>(command: Command, mut scan: Scan<'a>) -> Result<Request<'a>, M
         taps,
         view,
         block,
+        upgrade,
         plain,
         quiet,
         ..
@@ -333,6 +337,7 @@ fn request_of<'a>(command: Command, mut scan: Scan<'a>) -> Result<Request<'a>, M
         sizes,
         taps,
         block: block || command == Command::Calm,
+        upgrade,
         plain,
     };
     Ok(Request {

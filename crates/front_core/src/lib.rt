@@ -5,7 +5,6 @@
 mod asked;
 mod captures;
 mod catching;
-mod causes;
 mod detail;
 mod fault;
 mod fault_line;
@@ -17,6 +16,7 @@ mod paint;
 mod scan;
 mod sizes;
 mod statements;
+mod target;
 mod tell;
 
 pub use asked::{Asked, Request, ask};
@@ -25,8 +25,9 @@ pub use catching::Catching;
 pub use detail::{tell_found, tell_status_of, with_detail};
 pub use fault::{Fault, fault_in};
 pub use files::{capture_of, file_of, file_read_at, is_text, name_shown, policy_of, target_of};
+pub use lines::line_at;
 pub use mistake::Mistake;
 pub use mistakes::tell_mistake;
 pub use paint::painted;
 pub use sizes::size_detail;
-pub use tell::{tell_fault, tell_status};
+pub use tell::{say_at_line, tell_fault, tell_status};

@@ -37,6 +37,8 @@ pub enum Mistake<'a> {
     NoTaps(Command),
     /// This command doesn't run on rank stores.
     NoBlock(Command),
+    /// This command has no policy to write as one of version 3.
+    NoUpgrade(Command),
     /// This command runs on rank stores only through a target, and none is given.
     BlockWithoutTarget(Command),
     /// The argument or the value of the option with this name is not a whole number in this range.

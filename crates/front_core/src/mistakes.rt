@@ -150,6 +150,11 @@ fn option_parts_of<'a>(mistake: Mistake<'a>) -> (&'static str, &'a str, &'static
             option_of(view),
             ": their lines end a report",
         ),
+        Mistake::NoUpgrade(command) => (
+            "expected no --upgrade at ",
+            command.word(),
+            ": it is for check",
+        ),
         Mistake::BlockWithoutTarget(command) => (
             "expected TARGET for --block at ",
             command.word(),

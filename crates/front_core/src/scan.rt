@@ -19,6 +19,7 @@ pub struct Scan<'a> {
     pub settings: Vec<Given<'a>>,
     pub view: Option<View>,
     pub block: bool,
+    pub upgrade: bool,
     pub plain: bool,
     pub quiet: bool,
     pub help: bool,
@@ -77,6 +78,7 @@ impl<'a> Scan<'a> {
             settings: Vec::new(alloc),
             view: None,
             block: false,
+            upgrade: false,
             plain: false,
             quiet: false,
             help: false,
@@ -190,6 +192,7 @@ impl<'a> Scan<'a> {
             "--quiet" => self.quiet = true,
             "--plain" => self.plain = true,
             "--block" => self.block = true,
+            "--upgrade" => self.upgrade = true,
             _ => return false,
         }
         true

@@ -1,4 +1,5 @@
 //! The forms of statements.
+use policy_text_defs::Edition;
 use report_core::FaultKind;
 
 /// Returns the form of a policy's statement with this first word.
@@ -21,9 +22,34 @@ fn policy_form(word: &[u8]) -> Option<&'static str> {
     })
 }
 
-/// Returns the form of a statement with this first word, in a text of this kind.
-pub fn statement_form(kind: FaultKind, word: &[u8]) -> Option<&'static str> {
+/// Returns the form of a statement of version 3 with this first word, if the versions before have
+/// another one.
+fn third_form(word: &[u8]) -> Option<&'static str> {
+    match word {
+        b"class" => Some(
+            "class NAME [prio N] [weight N] [slack N] [when ALL {or ALL}], where ALL is TEST {and TEST}
+  TEST: after [not], FIELD R, FIELD `{R, R, ..}`, src ADDRESS, dst ADDRESS, tcpflags VALUE/MASK, ipv4 or ipv6, where R is N or LOW..HIGH
+  FIELD: vlan, pcp, ethertype, dscp, proto, sport, dport or len",
+        ),
+        b"leaf" => Some(
+            "leaf NAME using TRANSACTION {SETTING} classes NAME {NAME}
+  SETTING: prio N, weight N, slack N, limit N [packets], limit N bytes, limit N per flow, or flow by src, dst, src dst or 5tuple",
+        ),
+        b"node" => Some(
+            "node NAME using TRANSACTION {SETTING} children NAME {NAME}
+  SETTING: prio N, weight N, slack N, limit N [packets], limit N bytes, limit N per flow, or flow by src, dst, src dst or 5tuple",
+        ),
+        _ => None,
+    }
+}
+
+/// Returns the form of a statement with this first word, in a text of this kind and edition.
+pub fn statement_form(kind: FaultKind, edition: Edition, word: &[u8]) -> Option<&'static str> {
     match kind {
+        FaultKind::Policy if edition == Edition::Third => match third_form(word) {
+            Some(form) => Some(form),
+            None => policy_form(word),
+        },
         FaultKind::Policy => policy_form(word),
         FaultKind::Target => Some("arity = N and height = N, or arities = [N, ..]"),
         FaultKind::Script => Some("a N, d N, rest or drain"),

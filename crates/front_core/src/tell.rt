@@ -2,15 +2,18 @@
 ghost use Rattle.std.specs.Prelude.{◌≤◌, length};
 
 use crate::captures::capture_kind;
-use crate::causes::{Cause, cause_of};
 use crate::fault::Fault;
 use crate::files::{is_text, name_shown};
 use crate::lines::{blanks, clean_length, first_word, line_at};
 use crate::statements::statement_form;
-use front_defs::Command;
-use front_forms::{Detail, Error, detail_of, say, say_around, say_number, say_thousands};
+use crate::target::target_detail;
+use front_defs::{Cause, Command, cause_of};
+use front_forms::{
+    Detail, Error, detail_of, edition_of, say, say_around, say_number, say_thousands,
+};
 use front_warnings::divisor_column;
 use policy_rules::BUILTINS;
+use policy_text_defs::Edition;
 use report_core::FaultKind;
 use std::alloc::{AllocError, Global};
 use std::str;
@@ -94,10 +97,15 @@ fn encoding_of(text: &[u8]) -> Option<&'static str> {
     }
 }
 
-/// Appends the form of the statement in a line.
-fn say_form(into: &mut Vec<u8>, fault: Fault, line: &[u8]) -> Result<(), AllocError> {
+/// Appends the form of the statement in a line of a text of this edition.
+fn say_form(
+    into: &mut Vec<u8>,
+    fault: Fault,
+    edition: Edition,
+    line: &[u8],
+) -> Result<(), AllocError> {
     let (word, _) = first_word(line);
-    match statement_form(fault.kind, word) {
+    match statement_form(fault.kind, edition, word) {
         Some(form) => say_around(into, "  form: ", form, "\n"),
         None if fault.kind == FaultKind::Policy && fault.code == BAD_FORM => say(
             into,
@@ -109,9 +117,10 @@ fn say_form(into: &mut Vec<u8>, fault: Fault, line: &[u8]) -> Result<(), AllocEr
 
 /// Appends the description of an error, with the line that it is in and a caret at its column,
 /// counted from 0.
-fn say_at_line(
+pub fn say_at_line(
     into: &mut Vec<u8>,
     fault: Fault,
+    edition: Edition,
     is: &str,
     line: &[u8],
     column: usize,
@@ -119,13 +128,14 @@ fn say_at_line(
     say_number(into, (column as u64).saturating_add(1))?;
     say_around(into, ": error: ", is, "\n")?;
     say_line(into, line, column)?;
-    say_form(into, fault, line)
+    say_form(into, fault, edition, line)
 }
 
 /// Appends the description of an error whose place in the text is known.
 fn say_detail(
     into: &mut Vec<u8>,
     fault: Fault,
+    edition: Edition,
     cause: Cause,
     text: &[u8],
     detail: &Detail,
@@ -140,7 +150,7 @@ fn say_detail(
     say_number(into, detail.line)?;
     say(into, ":")?;
     let line = line_at(text, detail.line).unwrap_or(b"");
-    say_at_line(into, fault, is, line, detail.column)
+    say_at_line(into, fault, edition, is, line, detail.column)
 }
 
 /// Returns the line that an error is in, if its position is a line number.
@@ -156,6 +166,7 @@ fn line_of(fault: Fault, text: &[u8]) -> Option<&[u8]> {
 fn say_in_text(
     into: &mut Vec<u8>,
     fault: Fault,
+    edition: Edition,
     cause: Cause,
     text: Option<&[u8]>,
 ) -> Result<(), AllocError> {
@@ -163,7 +174,7 @@ fn say_in_text(
         Some(line) if !line.is_empty() => {
             say_number(into, fault.place)?;
             say(into, ":")?;
-            return say_at_line(into, fault, cause.is, line, blanks(line));
+            return say_at_line(into, fault, edition, cause.is, line, blanks(line));
         }
         _ if fault.place != 0 => {
             say_number(into, fault.place)?;
@@ -253,18 +264,27 @@ fn detail_in(
         (FaultKind::Policy, ZERO_DIVISOR) => divisor_column(alloc, text, fault.place)?,
         _ => None,
     };
-    detail_of(
-        alloc,
-        Error {
-            kind: fault.kind,
-            code: fault.code,
-            line: fault.place,
-            text,
-            policy,
-            divisor,
-            builtins: &BUILTINS,
-        },
-    )
+    let error = Error {
+        kind: fault.kind,
+        code: fault.code,
+        line: fault.place,
+        text,
+        policy,
+        divisor,
+        builtins: &BUILTINS,
+    };
+    match (fault.kind, fault.code) {
+        (FaultKind::Target, 1..=3) => target_detail(alloc, error),
+        _ => detail_of(alloc, error),
+    }
+}
+
+/// Returns the edition of a text, which only policies choose.
+fn edition_in(alloc: Global, fault: Fault, content: Option<&[u8]>) -> Result<Edition, AllocError> {
+    match (fault.kind, content) {
+        (FaultKind::Policy, Some(text)) => edition_of(alloc, text),
+        _ => Ok(Edition::Classic),
+    }
 }
 
 /// Appends the description of an error, with its position.
@@ -276,13 +296,14 @@ fn say_cause(
     content: Option<&[u8]>,
     policy: &[u8],
 ) -> Result<(), AllocError> {
+    let edition = edition_in(alloc, fault, content)?;
     if let Some(text) = content
         && let Some(detail) = detail_in(alloc, fault, text, policy)?
     {
-        return say_detail(into, fault, cause, text, &detail);
+        return say_detail(into, fault, edition, cause, text, &detail);
     }
     if is_at_line(fault) {
-        say_in_text(into, fault, cause, content)
+        say_in_text(into, fault, edition, cause, content)
     } else {
         say_at_place(alloc, into, fault, cause, content)
     }

@@ -33,15 +33,17 @@ RATE is 10Mbit, 10gbit, 1.25MB or 125000 (bytes a second). The file - is standar
 -t, --tap NAME            one more line at the end of replay: bytes, order, first or drops
     --plain               write the line `fault KIND CODE PLACE` too, and no messages
     --summary[=json]      write sums of direct, replay or link instead of events
+    --upgrade             for check: print the policy as one of version 3
 -q, --quiet               write no messages
 -V, --version             the version
 ";
 
 /// The help text of `check`.
 const CHECK: &str = "\
-zovatsemo check POLICY
+zovatsemo check POLICY [--upgrade]
 
-Reports the first error of a policy, with its line, or prints the policy's canonical text.
+Reports the first error of a policy, with its line, or prints the policy's canonical text. With --upgrade it prints a policy
+of version 1 or 2 as one of version 3, which has the same meaning.
 
     zovatsemo check examples/office/policy
 ";

@@ -1,7 +1,9 @@
 //! The meaning of a command line: its names and options, the replayer's arguments that they give,
-//! rates with units, and numbers in a range. Begin with specs/Options.antt.
+//! rates with units, and numbers in a range; and the meaning of error codes. Begin with
+//! specs/Options.antt.
 #![tactic(auto)]
 
+mod causes;
 mod command;
 mod help;
 mod names;
@@ -12,6 +14,7 @@ mod sizes;
 mod unit;
 mod view;
 
+pub use causes::{Cause, cause_of};
 pub use command::Command;
 pub use help::{help_of, help_of_all};
 pub use names::{

@@ -11,7 +11,7 @@ pub const COMMANDS: [&str; 10] = [
 ];
 
 /// The names of the options.
-pub const OPTIONS: [&str; 15] = [
+pub const OPTIONS: [&str; 16] = [
     "--block",
     "--entry-bits",
     "--help",
@@ -26,6 +26,7 @@ pub const OPTIONS: [&str; 15] = [
     "--rate",
     "--summary",
     "--tap",
+    "--upgrade",
     "--version",
 ];
 
@@ -109,7 +110,7 @@ pub fn command_named(word: &str) -> Option<Command> {
 /// Returns the command's form, as in the first line of its help.
 pub fn form_of(command: Command) -> &'static str {
     match command {
-        Command::Check => "check POLICY",
+        Command::Check => "check POLICY [--upgrade]",
         Command::Plan => "plan POLICY TARGET",
         Command::Replay => "replay POLICY TARGET CAPTURE SCRIPT [--tap NAME]..",
         Command::Link => "link POLICY [TARGET] CAPTURE RATE [--overhead BYTES]",

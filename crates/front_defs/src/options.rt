@@ -28,6 +28,8 @@ pub struct Options<'a> {
     pub taps: Vec<&'a str>,
     /// Whether the target builds its queues from rank stores.
     pub block: bool,
+    /// Whether `check` writes the policy as one of version 3.
+    pub upgrade: bool,
     /// Whether standard output gets everything that the replayer writes, including its `fault`
     /// line.
     pub plain: bool,

@@ -4,10 +4,10 @@ use crate::expected::{say_break, say_byte};
 use crate::given::{map_detail, tree_detail};
 use crate::rules::rule_detail;
 use crate::steps::count_detail;
-use crate::target::target_detail;
 use crate::want::Place;
 use crate::wording::say;
-use crate::words::entries;
+use crate::words::{edition_of, entries};
+use policy_text_defs::Edition;
 use report_core::FaultKind;
 use std::alloc::{AllocError, Global};
 use text_core::lines;
@@ -58,16 +58,17 @@ fn statement_at<'a>(
     }
 }
 
-/// Returns the first token of a line that no form takes from this place on.
+/// Returns the first token of a line of this edition that no form takes from this place on.
 fn break_detail(
     alloc: Global,
     error: Error<'_>,
+    edition: Edition,
     place: Place,
 ) -> Result<Option<Detail>, AllocError> {
     let Some(statement) = statement_at(alloc, error.text, error.line)? else {
         return Ok(None);
     };
-    let Some(broken) = first_break(alloc, statement, place)? else {
+    let Some(broken) = first_break(alloc, statement, edition, place)? else {
         return Ok(None);
     };
     let mut message = Vec::new(alloc);
@@ -166,10 +167,13 @@ fn policy_detail(alloc: Global, error: Error<'_>) -> Result<Option<Detail>, Allo
     match error.code {
         21 | 24 => Ok(None),
         22 => byte_detail(alloc, error),
-        23 => match break_detail(alloc, error, Place::Statement)? {
-            Some(detail) => Ok(Some(detail)),
-            None => form_detail(alloc, error),
-        },
+        23 => {
+            let edition = edition_of(alloc, error.text)?;
+            match break_detail(alloc, error, edition, Place::Statement)? {
+                Some(detail) => Ok(Some(detail)),
+                None => form_detail(alloc, error),
+            }
+        }
         _ => {
             let entries = entries(alloc, error.text)?;
             rule_detail(alloc, error, &entries)
@@ -182,12 +186,11 @@ fn policy_detail(alloc: Global, error: Error<'_>) -> Result<Option<Detail>, Allo
 pub fn detail_of(alloc: Global, error: Error<'_>) -> Result<Option<Detail>, AllocError> {
     match (error.kind, error.code) {
         (FaultKind::Policy, _) => policy_detail(alloc, error),
-        (FaultKind::Target, 1..=3) => target_detail(alloc, error),
-        (FaultKind::Script, 1) => break_detail(alloc, error, Place::Step),
+        (FaultKind::Script, 1) => break_detail(alloc, error, Edition::Classic, Place::Step),
         (FaultKind::Script, 2) => count_detail(alloc, error),
-        (FaultKind::Map, 2) => break_detail(alloc, error, Place::Map),
+        (FaultKind::Map, 2) => break_detail(alloc, error, Edition::Classic, Place::Map),
         (FaultKind::Map, 3..=8) => map_detail(alloc, error),
-        (FaultKind::Tree, 2) => match break_detail(alloc, error, Place::Tree)? {
+        (FaultKind::Tree, 2) => match break_detail(alloc, error, Edition::Classic, Place::Tree)? {
             Some(detail) => Ok(Some(detail)),
             None => tree_detail(alloc, error),
         },

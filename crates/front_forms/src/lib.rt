@@ -11,12 +11,13 @@ mod near;
 mod rows;
 mod rules;
 mod steps;
-mod target;
 mod walk;
 mod want;
 mod wording;
 mod words;
 
-pub use detail::{Detail, Error, detail_of};
+pub use breaks::part;
+pub use detail::{Detail, Error, blanks, detail_of, value_column};
 pub use near::nearest;
 pub use wording::{say, say_around, say_names, say_number, say_short, say_thousands};
+pub use words::edition_of;

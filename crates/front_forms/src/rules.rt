@@ -221,7 +221,11 @@ fn unknown_in(
         " that is declared, found ",
     )?;
     say_quoted(&mut message, bytes)?;
-    say_nearest(alloc, &mut message, bytes, &names)?;
+    if space == Space::Variable && bytes.contains(&b'-') {
+        say(&mut message, "; a difference has spaces around `-`")?;
+    } else {
+        say_nearest(alloc, &mut message, bytes, &names)?;
+    }
     Ok(Some(at_word(entry, word, message)))
 }
 

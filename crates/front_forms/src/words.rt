@@ -1,8 +1,8 @@
 //! The words of the statements of a text.
-use crate::breaks::{is_word_byte, part};
-use policy_text_defs::is;
+use crate::breaks::{is_run_byte, is_word_byte, part};
+use policy_text_defs::{Edition, is};
 use std::alloc::{AllocError, Global};
-use text_core::{Line, lines};
+use text_core::{Line, TokenFault, decimal, lines, tokens};
 
 /// A word of a text: its first byte, and the byte after it.
 #[derive(Clone, Copy)]
@@ -21,14 +21,59 @@ pub struct Entry {
     pub words: Vec<Word>,
 }
 
-/// Returns the words of a line: runs of letters, digits and `_`.
-fn words(alloc: Global, text: &[u8], span: Line) -> Result<Vec<Word>, AllocError> {
+/// Returns whether the statement bytes of a line are `policy 3`.
+fn is_third(alloc: Global, line: &[u8]) -> Result<bool, AllocError> {
+    match tokens(alloc, line) {
+        Ok(found) => Ok(match found.as_slice() {
+            [word, number] => {
+                is(part(line, word.start, word.end), "policy")
+                    && decimal(part(line, number.start, number.end)) == Some(3)
+            }
+            _ => false,
+        }),
+        Err(TokenFault::Bad(_)) => Ok(false),
+        Err(TokenFault::NoMemory) => Err(AllocError),
+    }
+}
+
+/// Returns the edition of a policy: the third one if its first statement is `policy 3`. Fails if out
+/// of memory.
+pub fn edition_of(alloc: Global, text: &[u8]) -> Result<Edition, AllocError> {
+    let lines = lines(alloc, text)?;
+    for span in lines.as_slice() {
+        let line = part(text, span.start, span.end);
+        if is_third(alloc, line)? {
+            return Ok(Edition::Third);
+        }
+        if line.iter().any(|byte| !matches!(*byte, b' ' | b'\t')) {
+            break;
+        }
+    }
+    Ok(Edition::Classic)
+}
+
+/// Returns whether a byte belongs to a word: a letter, a digit or `_`, in the third edition also `:`,
+/// and `-` after another byte.
+fn is_in_word(edition: Edition, byte: u8, is_first: bool) -> bool {
+    match edition {
+        Edition::Third => is_run_byte(byte) && !(is_first && byte == b'-'),
+        Edition::Classic => is_word_byte(byte),
+    }
+}
+
+/// Returns the words of a line.
+fn words(
+    alloc: Global,
+    text: &[u8],
+    span: Line,
+    edition: Edition,
+) -> Result<Vec<Word>, AllocError> {
     let mut found = Vec::new(alloc);
     let mut start = span.start;
     let mut end = span.start;
     for byte in part(text, span.start, span.end) {
         let next = end.saturating_add(1);
-        if !is_word_byte(*byte) {
+        if !is_in_word(edition, *byte, start == end) {
             if start < end {
                 found.push(Word { start, end })?;
             }
@@ -44,12 +89,13 @@ fn words(alloc: Global, text: &[u8], span: Line) -> Result<Vec<Word>, AllocError
 
 /// Returns the lines of a text that have words.
 pub fn entries(alloc: Global, text: &[u8]) -> Result<Vec<Entry>, AllocError> {
+    let edition = edition_of(alloc, text)?;
     let lines = lines(alloc, text)?;
     let mut found = Vec::new(alloc);
     let mut line: u64 = 0;
     for span in lines.as_slice() {
         line = line.saturating_add(1);
-        let words = words(alloc, text, *span)?;
+        let words = words(alloc, text, *span, edition)?;
         if !words.is_empty() {
             found.push(Entry {
                 line,

@@ -66,7 +66,7 @@ impl<'a> Tree<'a> {
                     using: using.as_str(),
                 },
             ),
-            Statement::Node(name, using, _, children) => put(
+            Statement::Node(name, using, _, _, children) => put(
                 &mut self.parents,
                 children.as_slice(),
                 Above {
@@ -165,7 +165,7 @@ fn warn_of_statement(
             let written = Written { line, name, attrs };
             warn_of(alloc, notes, &written, tree.leaf_of(name), readers)
         }
-        Statement::Leaf(name, _, attrs, _, _) | Statement::Node(name, _, attrs, _) => {
+        Statement::Leaf(name, _, attrs, _, _) | Statement::Node(name, _, attrs, _, _) => {
             let (name, attrs) = (name.as_str(), *attrs);
             let written = Written { line, name, attrs };
             warn_of(alloc, notes, &written, tree.parent_of(name), readers)

@@ -15,13 +15,16 @@ fn is_flowless(using: &str) -> bool {
     using == "fifo" || using == "strict" || using == "shortest" || using == "lstf"
 }
 
-/// Returns whether a policy can depend on header fields: a class has a condition, or a leaf can
-/// distinguish flows.
+/// Returns whether a policy can depend on header fields: a class has a condition, or a leaf or node
+/// can distinguish flows.
 fn needs_fields(entries: &[(u32, Statement)]) -> bool {
     entries.iter().any(|entry| match &entry.1 {
         Statement::Class(_, _, conditions) => !conditions.is_empty(),
         Statement::Filter(_, _, alternatives) => !alternatives.is_empty(),
-        Statement::Leaf(_, using, _, _, _) => !is_flowless(using.as_str()),
+        Statement::Leaf(_, using, _, queueing, _) => {
+            !is_flowless(using.as_str()) || queueing.per_flow.is_some()
+        }
+        Statement::Node(_, _, _, queueing, _) => queueing.per_flow.is_some(),
         _ => false,
     })
 }

@@ -1,18 +1,20 @@
 -- Two packets that arrive at a single leaf in either order.
-use Rattle.library_tests.proofs.Prelude.{arith, ◌≡◌, ◌∙◌, sym, ap, refl, subst, false, ℕ, Bool, List, None, Some, [], if◌then◌else◌, length, ◌+◌, ◌<◌, ◌≢◌, true, ◌∷◌, IsSomeAnd, max, nat_eq, Packet, IsAccepted, IsClassReady, Policy, Node, node_at, Class, limit_at, Program, Span, StandForOne, sound_arrived, sound_start, by_fullness, with_packet-other, Arrive, CanMake, after, IsSendable, arrived, SourceState, start, is_full, Held, class_of, dropped, filled, pushed, with_packet, depth, Address, Tree, inner, leaf, IsAddressOf, LeadsToLeaf, SameShape, more, none, subtree}
+use Rattle.library_tests.proofs.Prelude.{arith, ◌≡◌, ◌∙◌, sym, ap, refl, subst, false, ℕ, Bool, List, None, Some, [], if◌then◌else◌, length, ◌+◌, ◌<◌, ◌≢◌, true, ◌∷◌, IsSomeAnd, max, nat_eq, Packet, IsAccepted, IsClassReady, Policy, Node, node_at, Class, Program, Span, StandForOne, sound_arrived, sound_start, by_fullness, with_packet-other, Arrive, CanMake, after, IsSendable, arrived, SourceState, start, is_full, Held, class_of, dropped, pushed, with_packet, depth, Address, Tree, inner, leaf, IsAddressOf, LeadsToLeaf, SameShape, more, none, subtree}
 use Rattle.std.specs.Option.{option_map_or}
 use Rattle.std.specs.List.{AllByRecursion}
 use Rattle.std.proofs.lemmas.Bool.Decides.{Decides-eqb}
-use Rattle.tree_defs.specs.Queue.{Queue}
 use Rattle.tree_defs.specs.Topology.{Topology, topology_of}
 use Rattle.tree_defs.specs.SourceTree.{size}
-use Rattle.tree_defs.specs.Packets.{queue_at}
 use Rattle.tree_defs.proofs.WellFormedLaws.{size-empty}
 use Rattle.embed_defs.specs.Levels.{Arities}
 use Rattle.embed_defs.specs.Canonical.{canonical, IsCanonical}
 use Rattle.rank_defs.specs.States.{State, SameState}
 use Rattle.rank_defs.specs.Shapes.{IsStateInRange, AreWithin}
 use Rattle.sched_defs.specs.Sound.{IsSound}
+use Rattle.std.proofs.lemmas.Bool.{true≢false}
+use Rattle.policy_defs.specs.Policy.{no_limits, limits_at}
+use Rattle.sched_defs.specs.SourceState.{passes_at}
+use Rattle.sched_defs.proofs.Totals.{Meets, way-met}
 use Rattle.sched_defs.proofs.Leaving.{size_pushed}
 use Rattle.sched_defs.proofs.Runs.{sound_after}
 use Rattle.rank_defs.proofs.SameStates.{same-trans}
@@ -20,17 +22,19 @@ use Rattle.embed_defs.specs.Images.{image_map}
 use Rattle.embed_defs.specs.Lift.{IsLift}
 use Rattle.fabric_core.specs.declared.fabric.Fabric.{Ghosts}
 use Rattle.sched_core.specs.PolicyState.{policy_in}
+use Rattle.sched_core.specs.Totals.{AreKept, Values, amounts_in}
 use Rattle.sched_embedded.specs.declared.embedded.Embedded.{Embedded}
 use Rattle.sched_embedded.specs.Embedded.{EmbeddedStands, origin_of}
+use Rattle.sched_embedded.proofs.QueuedTotals.{same_amounts}
 use Rattle.target_core.specs.declared.target.Target.{Target}
 use Rattle.embed_core.specs.Range.{levels_of}
 use Rattle.library_tests.specs.Filled.{IsPlain, IsFilled}
 
 -- a tree without levels below its root, in which a class has a leaf
 alone : (tree : Tree Node) (cs : List Class) → depth tree ≡ 0 → 0 < length cs → AllByRecursion (IsClassReady tree) cs
-    → IsSomeAnd (node_at tree []) (λ n. n.program.keeps ≡ []) → IsSomeAnd (node_at tree []) (λ n. n.program.eaches ≡ []) → IsSomeAnd (node_at tree []) (λ n. n.limit ≡ None) → IsPlain tree
+    → IsSomeAnd (node_at tree []) (λ n. n.program.keeps ≡ []) → IsSomeAnd (node_at tree []) (λ n. n.program.eaches ≡ []) → IsSomeAnd (node_at tree []) (λ n. n.limits ≡ no_limits) → IsPlain tree
 alone tree [] d some all keeps eaches free = absurd (omega (arith, some))
-alone (leaf n) (c ∷ cs) d some all keeps eaches free = record { node = n; is = refl; keeps = keeps; eaches = eaches; limit = free }
+alone (leaf n) (c ∷ cs) d some all keeps eaches free = record { node = n; is = refl; keeps = keeps; eaches = eaches; limits = free }
 alone (inner n none) (c ∷ cs) d some all keeps eaches free = absurd (no_leaf c.leaf all.0.leaf_address)
   where
     no_leaf : (a : Address) → LeadsToLeaf (inner n none) a → ⊥
@@ -39,7 +43,7 @@ alone (inner n none) (c ∷ cs) d some all keeps eaches free = absurd (no_leaf c
 alone (inner n (more t ts)) (c ∷ cs) d some all keeps eaches free = absurd (omega (arith, d))
 
 pub plain_leaf : (policy : Policy) → IsAccepted policy → depth policy.tree ≡ 0 → IsSomeAnd (node_at policy.tree []) (λ n. n.program.keeps ≡ []) → IsSomeAnd (node_at policy.tree []) (λ n. n.program.eaches ≡ [])
-    → IsSomeAnd (node_at policy.tree []) (λ n. n.limit ≡ None) → IsPlain policy.tree
+    → IsSomeAnd (node_at policy.tree []) (λ n. n.limits ≡ no_limits) → IsPlain policy.tree
 plain_leaf policy accepted d keeps eaches free = alone policy.tree policy.classes d accepted.some_class accepted.classes keeps eaches free
 
 none_within : (xs : List ℕ) → AreWithin [] xs → xs ≡ []
@@ -67,31 +71,27 @@ module _ (policy : Policy) (plain : IsPlain policy.tree) where
   nothing_below i a there = let e : subtree (leaf plain.node) (i ∷ a) ≡ Some there.0 = sym (ap (λ (t : Tree Node). subtree t (i ∷ a)) plain.is) ∙ there.1 in cc
 
   -- no packet is dropped there
-  unlimited : (a : Address) → limit_at policy a ≡ None
-  unlimited [] = ap (λ (t : Tree Node). option_map_or (λ n. n.limit) (node_at t []) None) plain.is ∙ plain.limit
-  unlimited (i ∷ a) = ap (λ (t : Tree Node). option_map_or (λ n. n.limit) (node_at t (i ∷ a)) None) plain.is
+  unlimited : (a : Address) → limits_at policy a ≡ no_limits
+  unlimited [] = ap (λ (t : Tree Node). option_map_or (λ n. n.limits) (node_at t []) no_limits) plain.is ∙ plain.limits
+  unlimited (i ∷ a) = ap (λ (t : Tree Node). option_map_or (λ n. n.limits) (node_at t (i ∷ a)) no_limits) plain.is
+
+  none_passed : (p : Packet) (s : SourceState) (a : Address) → passes_at policy p s a ≡ false
+  none_passed p s a = rw (unlimited a) refl
 
   pub never_full : (p : Packet) (s : SourceState) → is_full policy p s ≡ false
-  never_full p s = rw (unlimited (class_of policy p).leaf) refl
+  never_full p s = by_test (is_full policy p s) refl
+    where
+      by_test : (t : Bool) → is_full policy p s ≡ t → is_full policy p s ≡ false
+      by_test false e = e
+      by_test true e =
+          let m : Meets (passes_at policy p s) (class_of policy p).leaf = way-met (passes_at policy p s) (class_of policy p).leaf e in
+          absurd (true≢false (sym m.met ∙ none_passed p s m.at))
 
   arrives_pushed : (p : Packet) (s : SourceState) → arrived policy p s ≡ pushed policy p s
   arrives_pushed p s = ap (λ (t : Bool). if t then dropped p s else pushed policy p s) (never_full p s)
 
   pub both_pushed : (p q : Packet) → after policy (Arrive p ∷ Arrive q ∷ []) (start policy) ≡ pushed policy q (pushed policy p (start policy))
   both_pushed p q = ap (λ (s : SourceState). arrived policy q s) (arrives_pushed p (start policy)) ∙ arrives_pushed q (pushed policy p (start policy))
-
-  -- the leaf of every packet is the root
-  leads_to_root : (a : Address) → LeadsToLeaf policy.tree a → a ≡ []
-  leads_to_root [] l = refl
-  leads_to_root (i ∷ a) l = absurd (subst (λ (t : Tree Node). LeadsToLeaf t (i ∷ a)) plain.is l)
-
-  filled_here : (t : Tree Queue) → SameShape t (leaf plain.node) → length (queue_at t []) ≡ size t
-  filled_here (leaf q) same = refl
-  filled_here (inner q ts) same = absurd same
-
-  pub all_at_root : (s : SourceState) (a : Address) → IsSound policy s → LeadsToLeaf policy.tree a → filled s a ≡ size s.tree
-  all_at_root s a sound l =
-      ap (λ (b : Address). filled s b) (leads_to_root a l) ∙ filled_here s.tree (subst (λ (t : Tree Node). SameShape s.tree t) plain.is sound.shape)
 
   -- the nodes of two sound states are in the same state
   pub same_nodes : (s t : SourceState) → IsSound policy s → IsSound policy t → (a : Address) → IsAddressOf policy.tree a → SameState (s.nodes a) (t.nodes a)
@@ -147,10 +147,10 @@ same_now k m n = omega arith
 
 -- ---- a scheduler with a fabric that another filled
 -- two states are the same except for their queues
-pub record IsSameBeside (tree : Tree Node) (s t : SourceState) : Type 0 where
-  pub nodes : (a : Address) → IsAddressOf tree a → SameState (s.nodes a) (t.nodes a)
+pub record IsSameBeside (policy : Policy) (s t : SourceState) : Type 0 where
+  pub nodes : (a : Address) → IsAddressOf policy.tree a → SameState (s.nodes a) (t.nodes a)
   pub held : (n : ℕ) → s.held n ≡ t.held n
-  pub filled_alike : (a : Address) → LeadsToLeaf tree a → filled s a ≡ filled t a
+  pub amounts : amounts_in policy s ≡ amounts_in policy t
   pub size_is : size s.tree ≡ size t.tree
   pub now : s.now ≡ t.now
 
@@ -161,13 +161,14 @@ pub record AreAlike {F : Type 0} (c d : Embedded F) : Type 0 where
   pub pushes : (origin_of c).pushes + c.own.pushes ≡ (origin_of d).pushes + d.own.pushes
   pub pops : (origin_of c).pops + c.own.departures ≡ (origin_of d).pops + d.own.departures
 
-pub stands_with_another : {F : Type 0} (fabrics : Ghosts F) (c d : Embedded F) (u v : F) (s t : SourceState) → AreAlike c d → IsSameBeside (policy_in c.own).tree s t
+pub stands_with_another : {F : Type 0} (fabrics : Ghosts F) (c d : Embedded F) (u v : F) (s t : SourceState) → AreAlike c d → IsSameBeside (policy_in c.own) s t
     → EmbeddedStands fabrics c u s → EmbeddedStands fabrics d v t → EmbeddedStands fabrics c v t
 stands_with_another fabrics c d u v s t alike same one other = record {
   own = record {
     nodes = λ a x there kept. same-trans _ _ _ (one.own.nodes a x there kept) (same.nodes a there);
     held = λ n. one.own.held n ∙ same.held n;
-    filled = λ a l. one.own.filled a l ∙ ap Some (same.filled_alike a l);
+    filled = λ a l. one.own.filled a l ∙ ap (λ (v : Values). Some (v a).packets) same.amounts;
+    totals = subst (AreKept (policy_in c.own) c.own.totals) same.amounts one.own.totals;
     few = omega (arith, one.own.few, same.size_is);
     now = sym same.now ∙ one.own.now;
   };
@@ -190,17 +191,19 @@ two_held policy accepted plain p q apart first second =
 
 -- two packets arrived at each scheduler, in opposite orders
 pub same_beside : (policy : Policy) (accepted : IsAccepted policy) (plain : IsPlain policy.tree) (p q : Packet) → p.number ≢ q.number → IsSendable policy p → IsSendable policy q
-    → IsSameBeside policy.tree (after policy (Arrive p ∷ Arrive q ∷ []) (start policy)) (after policy (Arrive q ∷ Arrive p ∷ []) (start policy))
+    → IsSameBeside policy (after policy (Arrive p ∷ Arrive q ∷ []) (start policy)) (after policy (Arrive q ∷ Arrive p ∷ []) (start policy))
 same_beside policy accepted plain p q apart first second =
     let s : SourceState = after policy (Arrive p ∷ Arrive q ∷ []) (start policy) in
     let t : SourceState = after policy (Arrive q ∷ Arrive p ∷ []) (start policy) in
     let one : IsSound policy s = sound_after policy (Arrive p ∷ Arrive q ∷ []) (start policy) accepted (sound_start policy accepted) (both_come policy accepted p q apart first second) in
     let other : IsSound policy t = sound_after policy (Arrive q ∷ Arrive p ∷ []) (start policy) accepted (sound_start policy accepted) (both_come policy accepted q p (λ e. apart (sym e)) second first) in
+    let held : (n : ℕ) → s.held n ≡ t.held n
+    = λ n. ap (λ (z : SourceState). z.held n) (both_pushed policy plain p q) ∙ same_held p q (λ _. None) apart n ∙ sym (ap (λ (z : SourceState). z.held n) (both_pushed policy plain q p)) in
     let sizes : size s.tree ≡ size t.tree = two_held policy accepted plain p q apart first second ∙ sym (two_held policy accepted plain q p (λ e. apart (sym e)) second first) in
     record {
       nodes = same_nodes policy plain s t one other;
-      held = λ n. ap (λ (z : SourceState). z.held n) (both_pushed policy plain p q) ∙ same_held p q (λ _. None) apart n ∙ sym (ap (λ (z : SourceState). z.held n) (both_pushed policy plain q p));
-      filled_alike = λ a l. all_at_root policy plain s a one l ∙ sizes ∙ sym (all_at_root policy plain t a other l);
+      held = held;
+      amounts = same_amounts policy s t one other held;
       size_is = sizes;
       now = ap (λ (z : SourceState). z.now) (both_pushed policy plain p q) ∙ same_now 0 p.moment q.moment ∙ sym (ap (λ (z : SourceState). z.now) (both_pushed policy plain q p));
     }
@@ -222,6 +225,6 @@ module _ {F : Type 0} (fabrics : Ghosts F) (policy : Policy) (target : Target) (
         state = t;
         sound = sound_after policy (Arrive q ∷ Arrive p ∷ []) (start policy) accepted (sound_start policy accepted) (both_come policy accepted q p (λ e. apart (sym e)) second first);
         stood = stands_with_another fabrics c d u v s t alike
-            (subst (λ (r : Policy). IsSameBeside r.tree s t) (sym one.own) (same_beside policy accepted plain p q apart first second)) one.stands other.stands;
+            (subst (λ (r : Policy). IsSameBeside r s t) (sym one.own) (same_beside policy accepted plain p q apart first second)) one.stands other.stands;
         has = tt;
       }

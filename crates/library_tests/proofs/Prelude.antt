@@ -5,7 +5,7 @@ pub use Rattle.embed_core.proofs.MapShapes.{leads-alike, depth-alike}
 pub use Rattle.outside_core.specs.Memory.{is_begun}
 pub use Rattle.packet_defs.specs.declared.packet.Packet.{Packet}
 pub use Rattle.policy_defs.specs.Accepted.{IsAccepted, IsClassReady}
-pub use Rattle.policy_defs.specs.Policy.{Policy, Node, node_at, Class, limit_at}
+pub use Rattle.policy_defs.specs.Policy.{Policy, Node, node_at, Class}
 pub use Rattle.rank_defs.specs.Programs.{Program}
 pub use Rattle.rank_defs.specs.declared.transaction.Span.{Span}
 pub use Rattle.sched_core.specs.Arrivals.{pushes_of, arrival_of, leaf_number}
@@ -15,6 +15,6 @@ pub use Rattle.sched_core.specs.declared.scheduler.Arrival.TheVariants.{Dropped,
 pub use Rattle.sched_defs.proofs.Soundness.{sound_arrived, sound_start, by_fullness, sound_departed, with_packet-other}
 pub use Rattle.sched_defs.specs.Events.{CanArrive, Arrive, CanMake, after}
 pub use Rattle.sched_defs.specs.Numbered.{IsSendable, IsHeldBelow}
-pub use Rattle.sched_defs.specs.SourceState.{arrived, SourceState, start, is_full, Held, class_of, departed, dropped, filled, pushed, with_packet}
+pub use Rattle.sched_defs.specs.SourceState.{arrived, SourceState, start, is_full, Held, class_of, departed, dropped, pushed, with_packet}
 pub use Rattle.tree_core.specs.Shape.{topology}
 pub use Rattle.tree_defs.specs.Tree.{depth, Address, Tree, inner, leaf, IsAddressOf, LeadsToLeaf, SameShape, more, nodes, none, subtree}

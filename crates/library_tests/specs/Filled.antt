@@ -1,10 +1,10 @@
 -- Policies of a single leaf, and schedulers over a fabric after their first two arrivals.
-use Rattle.std.specs.Prelude.{◌≡◌, ◌+◌, None, [], ◌∷◌, length}
+use Rattle.std.specs.Prelude.{◌≡◌, ◌+◌, [], ◌∷◌, length}
 use Rattle.tree_defs.specs.Tree.{Tree, leaf}
 use Rattle.tree_defs.specs.Topology.{topology_of}
 use Rattle.embed_defs.specs.Canonical.{IsCanonical}
 use Rattle.packet_defs.specs.declared.packet.Packet.{Packet}
-use Rattle.policy_defs.specs.Policy.{Policy, Node}
+use Rattle.policy_defs.specs.Policy.{Policy, Node, no_limits}
 use Rattle.sched_defs.specs.SourceState.{start}
 use Rattle.sched_defs.specs.Events.{Arrive, after}
 use Rattle.target_core.specs.declared.target.Target.{Target}
@@ -14,13 +14,13 @@ use Rattle.sched_core.specs.PolicyState.{policy_in}
 use Rattle.sched_embedded.specs.declared.embedded.Embedded.{Embedded}
 use Rattle.sched_embedded.specs.Embedded.{EmbeddedStands, origin_of}
 
--- a single leaf without variables and without a limit
+-- a single leaf without variables and without limits
 pub record IsPlain (tree : Tree Node) : Type 0 where
   pub node : Node
   pub is : tree ≡ leaf node
   pub keeps : node.program.keeps ≡ []
   pub eaches : node.program.eaches ≡ []
-  pub limit : node.limit ≡ None
+  pub limits : node.limits ≡ no_limits
 
 -- the scheduler was created over this fabric; then these two packets arrived, and nothing departed
 pub record IsFilled {F : Type 0} (fabrics : Ghosts F) (policy : Policy) (target : Target) (p q : Packet) (c : Embedded F) (fabric : F) : Type 0 where

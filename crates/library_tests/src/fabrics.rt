@@ -1,10 +1,10 @@
 //! A scheduler that is given a fabric which another scheduler filled.
-ghost use Rattle.std.specs.Prelude.{◌≡◌, ◌≤◌, [], ◌∷◌, length, ℕ, false, None, IfOk, IsSomeAnd, IsFalse, IsTrue, OnOk};
+ghost use Rattle.std.specs.Prelude.{◌≡◌, ◌≤◌, [], ◌∷◌, length, ℕ, false, IfOk, IsSomeAnd, IsFalse, IsTrue, OnOk};
 ghost use Rattle.tree_defs.specs.Tree.{depth};
 ghost use Rattle.tree_defs.specs.Topology.{topology_of};
 ghost use Rattle.embed_defs.specs.Target.{IsInRange};
 ghost use Rattle.embed_defs.specs.Canonical.{IsCanonical};
-ghost use Rattle.policy_defs.specs.Policy.{node_at};
+ghost use Rattle.policy_defs.specs.Policy.{node_at, no_limits};
 ghost use Rattle.policy_defs.specs.Accepted.{IsAccepted};
 ghost use Rattle.packet_defs.specs.declared.packet.Packet.{Packet as Known};
 ghost use Rattle.sched_defs.specs.SourceState.{SourceState, start, is_full};
@@ -60,15 +60,19 @@ const LATE: Packet = Packet {
     flow: NO_FLOW,
 };
 
-/// Returns whether the root is a leaf with a limit.
+/// Returns whether the root has a limit on its packets.
 fn is_root_limited(policy: &Policy) -> bool
-    ensures limit { IsFalse result → IsSomeAnd (node_at policy.now.policy.tree []) (λ n. n.limit ≡
-        None) }
+    ensures limits { IsFalse result → IsSomeAnd (node_at policy.now.policy.tree []) (λ n. n.limits ≡
+        no_limits) }
 {
-    policy.limit(0).is_some()
+    let limits = policy.limits(0);
+    if limits.packets.is_some() || limits.bytes.is_some() {
+        return true;
+    }
+    limits.per_flow.is_some()
 }
 
-/// Returns whether a policy is a single leaf without variables and without a limit.
+/// Returns whether a policy is a single leaf without variables and without limits.
 fn is_plain_leaf(policy: &Policy) -> bool
     ensures plain { IsTrue result → IsPlain policy.now.policy.tree }
     ensures accepted { IsAccepted policy.now.policy }

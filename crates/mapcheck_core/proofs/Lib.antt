@@ -17,6 +17,7 @@ pub mod StackLaws
 pub mod TreeSteps
 pub mod LineTrees
 pub mod LineForms
+pub mod ClassicLines
 pub mod EntryLines
 pub mod TextAnswers
 pub mod SomeVerdict

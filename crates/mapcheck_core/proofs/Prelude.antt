@@ -12,12 +12,14 @@ pub use Rattle.std.specs.Str.{bytes_eq}
 pub use Rattle.embed_defs.specs.Embedding.{IsEmbedding}
 pub use Rattle.embed_defs.specs.Images.{image_map, image_at}
 pub use Rattle.embed_defs.specs.Preorder.{number_of, HoldsImages, image_in, number_below}
-pub use Rattle.text_core.proofs.SaysLaws.{Says-one}
+pub use Rattle.text_core.proofs.SaysLaws.{Says-one, SaysIn-one}
 pub use Rattle.text_core.specs.Glyphs.{glyphs_of, Glyph, text, figure, sign, glyph_of}
 pub use Rattle.text_core.specs.Lines.{statements_of, line_text, is_clean_text}
-pub use Rattle.text_core.specs.Says.{Says}
+pub use Rattle.text_core.specs.Says.{Says, SaysIn}
 pub use Rattle.text_core.specs.declared.item.Item.{Item}
 pub use Rattle.text_core.specs.declared.line.Line.{Line}
+pub use Rattle.policy_text_defs.specs.Editions.{dialect_of}
+pub use Rattle.policy_text_defs.specs.declared.edition.Edition.{Edition}
 pub use Rattle.tree_core.specs.Shape.{topology}
 pub use Rattle.tree_core.specs.declared.topo.Topo.{Topo}
 pub use Rattle.tree_defs.proofs.TopologyLaws.{leaf_at, after-append, after-is, leads_to}
@@ -26,7 +28,7 @@ pub use Rattle.tree_defs.specs.Tree.{nodes, Address, inner, IsAddressOf, trees_o
 pub use Rattle.mapcheck_core.specs.Checks.{IsLeast, breaks_at, IsFirstBroken, IsFirstPair, is_broken, is_prefix, lower_of, breaks, differ, lies_in}
 pub use Rattle.mapcheck_core.specs.GivenMaps.{image_of, prefix, Breaks, IsOutside, MissesLeaf, outside, root, HoldsNowhere, IsInside, IsLeastLine, KeepsLeaves, KeepsPrefix, KeepsRoot, line_of, IsLeastPair, IsVerdict, IsWithinLimits}
 pub use Rattle.mapcheck_core.specs.Known.{knows}
-pub use Rattle.mapcheck_core.specs.MapLines.{line_of_entry, MapGives, MapLine, map_line, image_said, joined, one_line}
+pub use Rattle.mapcheck_core.specs.MapLines.{line_of_entry, MapGives, MapLine, map_line, line_with, image_said, joined, one_line}
 pub use Rattle.mapcheck_core.specs.MapTexts.{has, IsInNoForm, line_for, named, AreMapLines, IsMapAnswer, answer_of, missing_node, most_map_bytes, repeated_line, unknown_line, Fits, in_form, map_given, name_answer, node_answer, repeat_answer}
 pub use Rattle.mapcheck_core.specs.NumberedLines.{Give, IsFirstAtFault, InNoForm, over, next}
 pub use Rattle.mapcheck_core.specs.Numbers.{span_at, span_below, is_address, is_leaf, is_leaf_at}

@@ -1,6 +1,6 @@
 -- A text is a tree or has an error, and it has an answer as a map. A text without one is
 -- impossible.
-use Rattle.mapcheck_core.proofs.Prelude.{◌≡◌, sym, List, ℕ, subst, ◌∙◌, [], refl, arith, ◌∷◌, inr, ◌+◌, length, ◌≤◌, inl, ◌++◌, Result, append_assoc, length-append, cases_lt, append-nil, statements_of, Topology, nodes, depth, most_levels, most_nodes, MapGives, MapLine, IsInNoForm, IsMapAnswer, most_map_bytes, Give, IsFirstAtFault, InNoForm, over, IsTreeFault, nothing, IsLarge, TreeGives, TreeLine, one_tree, tree, IsSmall, IsTreeLineFault, IsTreeText, at_line, large, most_tree_bytes, no_line, second, MapFault, Given, TreeFault}
+use Rattle.mapcheck_core.proofs.Prelude.{Edition, ◌≡◌, sym, List, ℕ, subst, ◌∙◌, [], refl, arith, ◌∷◌, inr, ◌+◌, length, ◌≤◌, inl, ◌++◌, Result, append_assoc, length-append, cases_lt, append-nil, statements_of, Topology, nodes, depth, most_levels, most_nodes, MapGives, MapLine, IsInNoForm, IsMapAnswer, most_map_bytes, Give, IsFirstAtFault, over, IsTreeFault, nothing, IsLarge, TreeGives, TreeLine, one_tree, tree, IsSmall, IsTreeLineFault, IsTreeText, at_line, large, most_tree_bytes, no_line, second, MapFault, Given, TreeFault}
 use Rattle.mapcheck_core.specs.declared.tree_fault.TreeFault.TheVariants as fault
 use Rattle.mapcheck_core.specs.MapTexts as map
 use Rattle.mapcheck_core.specs.TreeTexts.{no_form, too_long}
@@ -28,15 +28,16 @@ module _ {A : Type 0} (Gives : ℕ → List ℕ → List A → Type 0) (AtFault 
 abbrev Any : List MapLine → Type 0
 Any ms = Unit {0}
 
-map_decides : (before : List MapLine) (n : ℕ) (line : List ℕ) → Any before → ((s : List MapLine) → MapGives n line s → Any (before ++ s) → ⊥) → (IsInNoForm before n line → ⊥) → ⊥
-map_decides before n line any none no_fault = no_fault (λ s gives. none s gives tt)
+module _ (ed : Edition) where
+  map_decides : (before : List MapLine) (n : ℕ) (line : List ℕ) → Any before → ((s : List MapLine) → MapGives ed n line s → Any (before ++ s) → ⊥) → (IsInNoForm ed before n line → ⊥) → ⊥
+  map_decides before n line any none no_fault = no_fault (λ s gives. none s gives tt)
 
-pub some_map : (text : List ℕ) (names : List (List ℕ)) → ((r : Result Given MapFault) → IsMapAnswer text names r → ⊥) → ⊥
-some_map text names none = elim (cases_lt most_map_bytes (length text)) [
-  | inl long ↦ none _ (map.too_long long)
-  | inr short ↦ some_lines MapGives IsInNoForm Any map_decides (statements_of text)
-      (λ ms give any. none _ (map.in_form ms (record { short = short; give = give }))) (λ n first. none _ (map.no_form n short first)) tt
-]
+  pub some_map : (text : List ℕ) (names : List (List ℕ)) → ((r : Result Given MapFault) → IsMapAnswer ed text names r → ⊥) → ⊥
+  some_map text names none = elim (cases_lt most_map_bytes (length text)) [
+    | inl long ↦ none _ (map.too_long long)
+    | inr short ↦ some_lines (MapGives ed) (IsInNoForm ed) Any map_decides (statements_of text)
+        (λ ms give any. none _ (map.in_form ms (record { short = short; give = give }))) (λ n first. none _ (map.no_form n short first)) tt
+  ]
 
 -- ---- trees
 abbrev AtMostOne : List TreeLine → Type 0

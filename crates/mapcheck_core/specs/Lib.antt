@@ -5,6 +5,7 @@ pub mod Checks
 pub mod Rows
 pub mod NumberedLines
 pub mod MapLines
+pub mod MapEditions
 pub mod MapTexts
 pub mod TreeTexts
 pub mod TreeReading

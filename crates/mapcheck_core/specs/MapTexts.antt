@@ -1,9 +1,10 @@
--- The texts that are maps of the nodes with these names, and the error of any other text. The codes
--- are checked in order.
+-- The texts that are maps of the nodes with these names, and the error of any other text. A text is
+-- read in the edition of the nodes' policy. The codes are checked in order.
 use Rattle.std.specs.Prelude.{◌≡◌, refl, ℕ, ◌<◌, ◌≤◌, Bool, not, if◌then◌else◌, List, [], ◌∷◌, ◌++◌, length, map, position, Option, Some, None, Result, Ok, Err, codes}
 use Rattle.std.specs.List.{list_any}
 use Rattle.std.specs.Str.{bytes_eq}
 use Rattle.text_core.specs.Lines.{statements_of}
+use Rattle.policy_text_defs.specs.declared.edition.Edition.{Edition}
 use Rattle.mapcheck_core.specs.declared.given.Given.{Given}
 use Rattle.mapcheck_core.specs.declared.fault.MapFault.{MapFault}
 use Rattle.mapcheck_core.specs.declared.fault.MapFault.TheVariants as fault
@@ -61,24 +62,25 @@ name_answer names ms None = repeat_answer names ms (repeated_line [] ms)
 abbrev pub answer_of : List (List ℕ) → List MapLine → Result Given MapFault
 answer_of names ms = name_answer names ms (unknown_line names ms)
 
--- a text that isn't too long and has only well-formed lines, with their entries
-pub record AreMapLines (text : List ℕ) (ms : List MapLine) : Type 0 where
+-- a text of this edition that isn't too long and has only well-formed lines, with their entries
+pub record AreMapLines (e : Edition) (text : List ℕ) (ms : List MapLine) : Type 0 where
   pub short : length text ≤ most_map_bytes
-  pub give : Give MapGives 1 (statements_of text) ms
+  pub give : Give (MapGives e) 1 (statements_of text) ms
 
-abbrev pub IsInNoForm : List MapLine → ℕ → List ℕ → Type 0
-IsInNoForm before n line = InNoForm MapGives n line
+-- whether a line is malformed doesn't depend on the lines before it
+abbrev pub IsInNoForm : Edition → List MapLine → ℕ → List ℕ → Type 0
+IsInNoForm e before n line = InNoForm (MapGives e) n line
 
--- the answer to a text: too long, else the first malformed line, else the answer for the lines and
--- the names
-pub data IsMapAnswer (text : List ℕ) (names : List (List ℕ)) : Result Given MapFault → Type 0 where
-  too_long : most_map_bytes < length text → IsMapAnswer text names (Err fault.TooLong)
-  no_form : (n : ℕ) → length text ≤ most_map_bytes → IsFirstAtFault MapGives IsInNoForm (statements_of text) n → IsMapAnswer text names (Err (fault.Line n))
-  in_form : (ms : List MapLine) → AreMapLines text ms → IsMapAnswer text names (answer_of names ms)
+-- the answer to a text of this edition: too long, else the first malformed line, else the answer for
+-- the lines and the names
+pub data IsMapAnswer (e : Edition) (text : List ℕ) (names : List (List ℕ)) : Result Given MapFault → Type 0 where
+  too_long : most_map_bytes < length text → IsMapAnswer e text names (Err fault.TooLong)
+  no_form : (n : ℕ) → length text ≤ most_map_bytes → IsFirstAtFault (MapGives e) (IsInNoForm e) (statements_of text) n → IsMapAnswer e text names (Err (fault.Line n))
+  in_form : (ms : List MapLine) → AreMapLines e text ms → IsMapAnswer e text names (answer_of names ms)
 
 -- the answer to a text has the property P
-abbrev pub ForMapAnswer : List ℕ → List (List ℕ) → (Result Given MapFault → Type 0) → Type 0
-ForMapAnswer text names P = (answer : Result Given MapFault) → IsMapAnswer text names answer → P answer
+abbrev pub ForMapAnswer : Edition → List ℕ → List (List ℕ) → (Result Given MapFault → Type 0) → Type 0
+ForMapAnswer e text names P = (answer : Result Given MapFault) → IsMapAnswer e text names answer → P answer
 
 -- one image and one line number for each name
 pub record Fits (names : List (List ℕ)) (g : Given) : Type 0 where

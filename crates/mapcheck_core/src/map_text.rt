@@ -15,6 +15,7 @@ use crate::entry::{Entry, read_entry};
 use crate::fault::MapFault;
 use crate::given::Given;
 use list_core::{List, Name};
+use policy_text_defs::Edition;
 use std::alloc::{AllocError, Global};
 use std::collections::BTreeSet;
 use text_core::{Refusal, lines};
@@ -25,17 +26,18 @@ pub const MOST_MAP_BYTES: usize = 1_048_576;
 /// Parses the line of this number. Returns `None` if it is empty.
 fn next_entry<'a>(
     alloc: Global,
+    edition: Edition,
     statement: &'a [u8],
     clean: bool,
     number: u32,
 ) -> Result<Option<Entry<'a>>, MapFault>
     requires { clean ≡ is_clean_text statement.now }
-    ensures ok { IfOk result (λ e. MapGives number statement.now
+    ensures ok { IfOk result (λ e. MapGives edition number statement.now
         (option_to_list (option_map line_of_entry e))) }
     ensures fault { IfErr result (λ f. (f ≡ NoMemory) ⊎ ((f ≡ Line number) ×
-        InNoForm MapGives number statement.now)) }
+        InNoForm (MapGives edition) number statement.now)) }
 {
-    match read_entry(alloc, statement, clean, number) {
+    match read_entry(alloc, edition, statement, clean, number) {
         Ok(entry) => Ok(entry),
         Err(Refusal::NoForm) => Err(MapFault::Line(number)),
         Err(Refusal::NoMemory) => Err(MapFault::NoMemory),
@@ -43,11 +45,16 @@ fn next_entry<'a>(
 }
 
 /// Parses the lines of a text that isn't too long.
-fn read_entries<'a>(alloc: Global, text: &'a [u8]) -> Result<List<Entry<'a>>, MapFault>
+fn read_entries<'a>(
+    alloc: Global,
+    edition: Edition,
+    text: &'a [u8],
+) -> Result<List<Entry<'a>>, MapFault>
     requires { length text.now ≤ most_map_bytes }
-    ensures ok { IfOk result (λ es. AreMapLines text.now (map line_of_entry es)) }
+    ensures ok { IfOk result (λ es. AreMapLines edition text.now (map line_of_entry es)) }
     ensures fault { IfErr result (λ f. (f ≡ NoMemory)
-        ⊎ ((n : ℕ) × (f ≡ Line n) × IsFirstAtFault MapGives IsInNoForm (statements_of text.now) n)) }
+        ⊎ ((n : ℕ) × (f ≡ Line n) ×
+        IsFirstAtFault (MapGives edition) (IsInNoForm edition) (statements_of text.now) n)) }
 {
     let lines = lines(alloc, text)?;
     let mut entries = List::from_vec(Vec::new(alloc));
@@ -55,7 +62,7 @@ fn read_entries<'a>(alloc: Global, text: &'a [u8]) -> Result<List<Entry<'a>>, Ma
     for line in lines.as_slice() {
         number += 1;
         let statement = &text[line.start..line.end];
-        if let Some(entry) = next_entry(alloc, statement, line.clean, number)? {
+        if let Some(entry) = next_entry(alloc, edition, statement, line.clean, number)? {
             entries.push(entry)?;
         }
     }
@@ -176,14 +183,19 @@ fn map_of(alloc: Global, entries: &[Entry<'_>], names: &[Name]) -> Result<Given,
     Ok(images_of(alloc, entries, names)?)
 }
 
-/// Parses a map of the nodes with these names, which are a policy's in preorder. Errors are checked
-/// in this order: the text is too long; a line is malformed; a name isn't a node's; a name is also
-/// on an earlier line; no line names a node. An error about a line or a node holds the least such
-/// number.
-pub fn read_map(alloc: Global, text: &[u8], names: &List<Name>) -> Result<Given, MapFault>
+/// Parses a map of the nodes with these names, which are in preorder those of a policy of this
+/// edition. Errors are checked in this order: the text is too long; a line is malformed; a name
+/// isn't a node's; a name is also on an earlier line; no line names a node. An error about a line or
+/// a node holds the least such number.
+pub fn read_map(
+    alloc: Global,
+    edition: Edition,
+    text: &[u8],
+    names: &List<Name>,
+) -> Result<Given, MapFault>
     requires few { length names.now ≤ most_nodes }
-    ensures answer { (result ≡ Err NoMemory) ⊎ IsMapAnswer text.now names.now result }
-    ensures only { ForMapAnswer text.now names.now (λ answer.
+    ensures answer { (result ≡ Err NoMemory) ⊎ IsMapAnswer edition text.now names.now result }
+    ensures only { ForMapAnswer edition text.now names.now (λ answer.
         (result ≡ answer) ⊎ (result ≡ Err NoMemory)) }
     ensures too_long { (result ≡ Err TooLong) ↔ (most_map_bytes < length text.now) }
     ensures given { IfOk result (λ g. Fits names.now g) }
@@ -191,6 +203,6 @@ pub fn read_map(alloc: Global, text: &[u8], names: &List<Name>) -> Result<Given,
     if text.len() > MOST_MAP_BYTES {
         return Err(MapFault::TooLong);
     }
-    let entries = read_entries(alloc, text)?;
+    let entries = read_entries(alloc, edition, text)?;
     map_of(alloc, entries.as_slice(), names.as_slice())
 }

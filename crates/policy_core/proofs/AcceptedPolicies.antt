@@ -1,10 +1,11 @@
 -- A policy that accepted statements give can be run.
-use Rattle.policy_core.proofs.Prelude.{List, ◌≡◌, ℕ, ap, sym, subst, [], arith, length, ◌<◌, ◌∷◌, refl, suc, true, Some, zero, None, Option, ◌≤◌, false, true≢false, Any, not, IsTrue, unwrap_or, ◌&&◌, ◌^◌, leb-true, nat_le, and_parts, recursion_from_All, AllByRecursion, IsAccepted, AreMarksInRange, HasFewChildren, HasLimitsAtLeaves, HaveFewChildren, HaveLimitsAtLeaves, IsClassReady, IsNodeReady, Node, node_at, node_below, AreAccepted, has_catch_all_behind, Name, programs, IsTreeIn, Declared, Resolved, classes_in, AreTreesIn, IsInnerOf, IsLeafOf, IsResolved, names_of, AreClassesOf, IsNodeOf, marks_of, Entry, Sense, node, class, filtered, version, each, keep, pop, push, transaction, IsName, IsValid, AreValidAttributes, IsValidAttribute, Attrs, Builtin, builtins, IsShaped, max_prio, max_slack, max_weight, most_name, Tree, Trees, inner, more, none, Address, nodes, depth, nodes_below, most_levels, count_of, AreValid}
+use Rattle.policy_core.proofs.Prelude.{List, ◌≡◌, ℕ, ap, sym, subst, [], arith, length, ◌<◌, ◌∷◌, refl, suc, true, Some, zero, None, Option, ◌≤◌, false, true≢false, Any, not, IsTrue, unwrap_or, ◌&&◌, ◌^◌, leb-true, nat_le, and_parts, recursion_from_All, AllByRecursion, IsAccepted, AreMarksInRange, HasFewChildren, HaveFewChildren, IsClassReady, IsNodeReady, Node, node_at, node_below, AreAccepted, has_catch_all_behind, Name, programs, IsTreeIn, Declared, Resolved, classes_in, AreTreesIn, IsInnerOf, IsLeafOf, IsResolved, names_of, AreClassesOf, IsNodeOf, marks_of, Entry, Sense, node, class, filtered, version, each, keep, pop, push, transaction, IsName, IsValid, AreValidAttributes, IsValidAttribute, Attrs, Builtin, builtins, IsShaped, max_prio, max_slack, max_weight, most_name, Tree, Trees, inner, more, none, Address, nodes, depth, nodes_below, most_levels, count_of, AreValid}
 use Rattle.tree_defs.specs.Tree.{leaf as leaf_of}
 use Rattle.rank_defs.specs.Checks.{IsChecked}
 use Rattle.rank_defs.proofs.Table.{builtins-checked}
 use Rattle.policy_text_defs.specs.declared.attribute.Attribute.TheVariants as attribute
 use Rattle.policy_text_defs.specs.Words.{is_word, is_reserved}
+use Rattle.policy_text_defs.specs.declared.queueing.Queueing.{Queueing}
 use Rattle.policy_text_defs.specs.Sense.{leaf}
 use Rattle.policy_defs.specs.Policy.{Class}
 use Rattle.policy_core.proofs.PlacePrograms.{none-some, some-same, program-holds}
@@ -51,8 +52,8 @@ marks-in_range a valid = record {
 }
 
 -- ---- nodes
-node-ready : (es : List Entry) (n : Node) (name used : Name) (a : Attrs) (limit : Option ℕ) → AreAccepted es → AllByRecursion IsShaped (programs es) → IsName name → AreValidAttributes a → IsNodeOf es n name used a limit → IsNodeReady n
-node-ready es n name used a limit accepted shaped named valid said = record {
+node-ready : (es : List Entry) (n : Node) (name used : Name) (a : Attrs) (q : Queueing) → AreAccepted es → AllByRecursion IsShaped (programs es) → IsName name → AreValidAttributes a → IsNodeOf es n name used a q → IsNodeReady n
+node-ready es n name used a q accepted shaped named valid said = record {
   shaped = program-holds IsShaped es used n.program (shaped-parts builtins builtins-checked) shaped said.program_is;
   checked = program-holds IsChecked es used n.program (checked-parts builtins builtins-checked) (checked-there es accepted) said.program_is;
   marks = subst AreMarksInRange (sym said.marks_are) (marks-in_range a valid);
@@ -68,8 +69,8 @@ leaf-ready es n (push m t) accepted shaped valid said = absurd said
 leaf-ready es n (pop m t) accepted shaped valid said = absurd said
 leaf-ready es n (class m a cs) accepted shaped valid said = absurd said
 leaf-ready es n (filtered m a cs) accepted shaped valid said = absurd said
-leaf-ready es n (leaf m u a l ns) accepted shaped valid said = node-ready es n m u a l accepted shaped valid.0 valid.2 said
-leaf-ready es n (node m u a ns) accepted shaped valid said = absurd said
+leaf-ready es n (leaf m u a q ns) accepted shaped valid said = node-ready es n m u a q accepted shaped valid.0 valid.2 said
+leaf-ready es n (node m u a q ns) accepted shaped valid said = absurd said
 
 inner-ready : (es : List Entry) (n : Node) (names : List Name) (s : Sense) → AreAccepted es → AllByRecursion IsShaped (programs es) → IsValid s → IsInnerOf es n names s → IsNodeReady n
 inner-ready es n names (version v) accepted shaped valid said = absurd said
@@ -80,8 +81,8 @@ inner-ready es n names (push m t) accepted shaped valid said = absurd said
 inner-ready es n names (pop m t) accepted shaped valid said = absurd said
 inner-ready es n names (class m a cs) accepted shaped valid said = absurd said
 inner-ready es n names (filtered m a cs) accepted shaped valid said = absurd said
-inner-ready es n names (leaf m u a l ns) accepted shaped valid said = absurd said
-inner-ready es n names (node m u a ns) accepted shaped valid said = node-ready es n m u a None accepted shaped valid.0 valid.2 said.0
+inner-ready es n names (leaf m u a q ns) accepted shaped valid said = absurd said
+inner-ready es n names (node m u a q ns) accepted shaped valid said = node-ready es n m u a q accepted shaped valid.0 valid.2 said.0
 
 -- a statement of a list is valid
 valid-there : (es : List Entry) (P : Sense → Type 0) (R : Type 0) → AreValid es → ((s : Sense) → IsValid s → P s → R) → Any (λ (e : Entry). P e.1) es → R
@@ -101,28 +102,6 @@ mutual
   below-ready es (more t ts) zero a n accepted shaped valid said at = nodes-ready es t a n accepted shaped valid said.0 at
   below-ready es (more t ts) (suc i) a n accepted shaped valid said at = below-ready es ts i a n accepted shaped valid said.1 at
 
--- ---- limits
-inner-unlimited : (es : List Entry) (n : Node) (names : List Name) (s : Sense) → IsInnerOf es n names s → n.limit ≡ None
-inner-unlimited es n names (version v) said = absurd said
-inner-unlimited es n names (transaction t) said = absurd said
-inner-unlimited es n names (keep m s) said = absurd said
-inner-unlimited es n names (each m s) said = absurd said
-inner-unlimited es n names (push m t) said = absurd said
-inner-unlimited es n names (pop m t) said = absurd said
-inner-unlimited es n names (class m a cs) said = absurd said
-inner-unlimited es n names (filtered m a cs) said = absurd said
-inner-unlimited es n names (leaf m u a l ns) said = absurd said
-inner-unlimited es n names (node m u a ns) said = said.0.limit_is
-
-mutual
-  limits-at_leaves : (es : List Entry) (tree : Tree Node) → IsTreeIn es tree → HasLimitsAtLeaves tree
-  limits-at_leaves es (leaf_of n) said = tt
-  limits-at_leaves es (inner n ts) said = (inner-unlimited es n (names_of ts) said.0.1.1 said.0.4, limits-below es ts said.1)
-
-  limits-below : (es : List Entry) (ts : Trees Node) → AreTreesIn es ts → HaveLimitsAtLeaves ts
-  limits-below es none said = tt
-  limits-below es (more t ts) said = (limits-at_leaves es t said.0, limits-below es ts said.1)
-
 -- ---- classes
 classes-valid : (es : List Entry) → AllByRecursion (λ (e : Entry). IsValid e.1) es → AllByRecursion (λ (d : Declared). AreMarksInRange d.marks) (classes_in es)
 classes-valid [] valid = tt
@@ -134,8 +113,8 @@ classes-valid ((n, push m t) ∷ es) valid = classes-valid es valid.1
 classes-valid ((n, pop m t) ∷ es) valid = classes-valid es valid.1
 classes-valid ((n, class m a cs) ∷ es) valid = (marks-in_range a valid.0.1, classes-valid es valid.1)
 classes-valid ((n, filtered m a cs) ∷ es) valid = (marks-in_range a valid.0.1, classes-valid es valid.1)
-classes-valid ((n, leaf m u a l ns) ∷ es) valid = classes-valid es valid.1
-classes-valid ((n, node m u a ns) ∷ es) valid = classes-valid es valid.1
+classes-valid ((n, leaf m u a q ns) ∷ es) valid = classes-valid es valid.1
+classes-valid ((n, node m u a q ns) ∷ es) valid = classes-valid es valid.1
 
 classes-ready : (es : List Entry) (tree : Tree Node) (ds : List Declared) (cs : List Class) → AllByRecursion (λ (d : Declared). AreMarksInRange d.marks) ds → AreClassesOf es tree ds cs → AllByRecursion (IsClassReady tree) cs
 classes-ready es tree [] [] valid are = tt
@@ -159,8 +138,8 @@ some-class ((n, push m t) ∷ es) last = some-class es last
 some-class ((n, pop m t) ∷ es) last = some-class es last
 some-class ((n, class m a cs) ∷ es) last = omega arith
 some-class ((n, filtered m a cs) ∷ es) last = omega arith
-some-class ((n, leaf m u a l ns) ∷ es) last = some-class es last
-some-class ((n, node m u a ns) ∷ es) last = some-class es last
+some-class ((n, leaf m u a q ns) ∷ es) last = some-class es last
+some-class ((n, node m u a q ns) ∷ es) last = some-class es last
 
 -- ---- sizes
 mutual
@@ -189,5 +168,4 @@ acceptable es r accepted valid shaped resolved low few = record {
   some_class = omega (arith, as-many es r.policy.tree (classes_in es) r.policy.classes resolved.classes, some-class es (catch_all-there es accepted));
   levels = low;
   children = few-children r.policy.tree (2 ^ 32) refl few;
-  limits = limits-at_leaves es r.policy.tree resolved.tree;
 }

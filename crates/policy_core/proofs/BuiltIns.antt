@@ -1,6 +1,7 @@
 -- A policy that accepted statements give uses the names of built-in transactions only for these.
-use Rattle.policy_core.proofs.Prelude.{List, ◌≡◌, ℕ, ap, sym, subst, [], ◌∙◌, ◌∷◌, suc, Some, zero, None, Option, AreBuiltIn, Node, node_at, node_below, Name, body_named, or_written, IsTreeIn, Resolved, AreTreesIn, IsInnerOf, IsLeafOf, IsResolved, names_of, IsNodeOf, Entry, Sense, node, class, filtered, version, each, keep, pop, push, transaction, Attrs, builtin, Program, Tree, Trees, inner, more, none, Address}
+use Rattle.policy_core.proofs.Prelude.{List, ◌≡◌, ℕ, ap, sym, subst, [], ◌∙◌, ◌∷◌, suc, Some, zero, Option, AreBuiltIn, Node, node_at, node_below, Name, body_named, or_written, IsTreeIn, Resolved, AreTreesIn, IsInnerOf, IsLeafOf, IsResolved, names_of, IsNodeOf, Entry, Sense, node, class, filtered, version, each, keep, pop, push, transaction, Attrs, builtin, Program, Tree, Trees, inner, more, none, Address}
 use Rattle.tree_defs.specs.Tree.{leaf as leaf_of}
+use Rattle.policy_text_defs.specs.declared.queueing.Queueing.{Queueing}
 use Rattle.policy_text_defs.specs.Sense.{leaf}
 use Rattle.policy_core.proofs.PlacePrograms.{none-some, some-same}
 
@@ -8,8 +9,8 @@ use Rattle.policy_core.proofs.PlacePrograms.{none-some, some-same}
 abbrev HasIfNamed : Node → Type 0
 HasIfNamed n = (p : Program) → builtin n.using ≡ Some p → n.program ≡ p
 
-named-node : (es : List Entry) (n : Node) (name used : Name) (a : Attrs) (limit : Option ℕ) → IsNodeOf es n name used a limit → HasIfNamed n
-named-node es n name used a limit said p is =
+named-node : (es : List Entry) (n : Node) (name used : Name) (a : Attrs) (q : Queueing) → IsNodeOf es n name used a q → HasIfNamed n
+named-node es n name used a q said p is =
     sym (some-same (sym (ap (λ (o : Option Program). or_written o (body_named es used)) (ap builtin (sym said.using_is) ∙ is)) ∙ said.program_is))
 
 named-leaf : (es : List Entry) (n : Node) (s : Sense) → IsLeafOf es n s → HasIfNamed n
@@ -21,8 +22,8 @@ named-leaf es n (push m t) said = absurd said
 named-leaf es n (pop m t) said = absurd said
 named-leaf es n (class m a cs) said = absurd said
 named-leaf es n (filtered m a cs) said = absurd said
-named-leaf es n (leaf m u a l ns) said = named-node es n m u a l said
-named-leaf es n (node m u a ns) said = absurd said
+named-leaf es n (leaf m u a q ns) said = named-node es n m u a q said
+named-leaf es n (node m u a q ns) said = absurd said
 
 named-inner : (es : List Entry) (n : Node) (names : List Name) (s : Sense) → IsInnerOf es n names s → HasIfNamed n
 named-inner es n names (version v) said = absurd said
@@ -33,8 +34,8 @@ named-inner es n names (push m t) said = absurd said
 named-inner es n names (pop m t) said = absurd said
 named-inner es n names (class m a cs) said = absurd said
 named-inner es n names (filtered m a cs) said = absurd said
-named-inner es n names (leaf m u a l ns) said = absurd said
-named-inner es n names (node m u a ns) said = named-node es n m u a None said.0
+named-inner es n names (leaf m u a q ns) said = absurd said
+named-inner es n names (node m u a q ns) said = named-node es n m u a q said.0
 
 mutual
   named-at : (es : List Entry) (tree : Tree Node) (a : Address) (n : Node) → IsTreeIn es tree → node_at tree a ≡ Some n → HasIfNamed n

@@ -53,5 +53,5 @@ no-class (statement.Push n t) not other = refl
 no-class (statement.Pop n t) not other = refl
 no-class (statement.Class n a cs) not other = absurd (not n a cs refl)
 no-class (statement.Filter n a ts) not other = absurd (other n a ts refl)
-no-class (statement.Leaf n u a l ns) not other = refl
-no-class (statement.Node n u a ns) not other = refl
+no-class (statement.Leaf n u a q ns) not other = refl
+no-class (statement.Node n u a q ns) not other = refl

@@ -14,8 +14,8 @@ new-class earlier (push m t) new = refl
 new-class earlier (pop m t) new = refl
 new-class earlier (class m a cs) new = new
 new-class earlier (filtered m a cs) new = new
-new-class earlier (leaf m u a l ns) new = refl
-new-class earlier (node m u a ns) new = refl
+new-class earlier (leaf m u a q ns) new = refl
+new-class earlier (node m u a q ns) new = refl
 
 pub distinct-classes : (es : List Entry) → AreRising es → NoLine (IsRepeated es) es → IsDistinct bytes_eq (declared class_name es)
 distinct-classes es rising fine = declared-distinct class_name es rising new-class fine
@@ -50,5 +50,5 @@ classes-listed all ((n, class m a cs) ∷ es) fine zero d l = once-there m all (
 classes-listed all ((n, filtered m a cs) ∷ es) fine zero d l = once-there m all (holds (is_once all m) fine.0)
 classes-listed all ((n, class m a cs) ∷ es) fine (suc k) d l = classes-listed all es fine.1 k d (omega arith)
 classes-listed all ((n, filtered m a cs) ∷ es) fine (suc k) d l = classes-listed all es fine.1 k d (omega arith)
-classes-listed all ((n, leaf m u a o ns) ∷ es) fine k d l = classes-listed all es fine.1 k d l
-classes-listed all ((n, node m u a ns) ∷ es) fine k d l = classes-listed all es fine.1 k d l
+classes-listed all ((n, leaf m u a q ns) ∷ es) fine k d l = classes-listed all es fine.1 k d l
+classes-listed all ((n, node m u a q ns) ∷ es) fine k d l = classes-listed all es fine.1 k d l

@@ -22,8 +22,8 @@ not-again earlier (push n t) h = refl
 not-again earlier (pop n t) h = refl
 not-again earlier (class n a cs) h = refl
 not-again earlier (filtered n a cs) h = refl
-not-again earlier (leaf n u a l ns) h = h
-not-again earlier (node n u a ns) h = h
+not-again earlier (leaf n u a q ns) h = h
+not-again earlier (node n u a q ns) h = h
 
 children-known : (es earlier : List Entry) (s : Sense) → is_known es earlier s ≡ true → list_all (has (declared node_name es)) (children s) ≡ true
 children-known es earlier (version v) h = refl
@@ -34,8 +34,8 @@ children-known es earlier (push n t) h = refl
 children-known es earlier (pop n t) h = refl
 children-known es earlier (class n a cs) h = refl
 children-known es earlier (filtered n a cs) h = refl
-children-known es earlier (leaf n u a l ns) h = refl
-children-known es earlier (node n u a ns) h = (and_parts (is_transaction_known es u) (list_all (has (declared node_name es)) ns) h).1
+children-known es earlier (leaf n u a q ns) h = refl
+children-known es earlier (node n u a q ns) h = (and_parts (is_transaction_known es u) (list_all (has (declared node_name es)) ns) h).1
 
 room-before : (earlier : List Entry) (s : Sense) → is_one_too_many earlier s ≡ false → length (declared node_name earlier) ≤ most_nodes → length (declared node_name earlier ++ cons_option (node_name s) []) ≤ most_nodes
 room-before earlier (version v) h few = omega (arith, few, length-append (declared node_name earlier) [])
@@ -46,8 +46,8 @@ room-before earlier (push n t) h few = omega (arith, few, length-append (declare
 room-before earlier (pop n t) h few = omega (arith, few, length-append (declared node_name earlier) [])
 room-before earlier (class n a cs) h few = omega (arith, few, length-append (declared node_name earlier) [])
 room-before earlier (filtered n a cs) h few = omega (arith, few, length-append (declared node_name earlier) [])
-room-before earlier (leaf n u a l ns) h few = (let ne : length (declared node_name earlier) ≢ most_nodes = eqb-false _ _ h in omega (arith, few, ne, length-append (declared node_name earlier) (n ∷ [])))
-room-before earlier (node n u a ns) h few = (let ne : length (declared node_name earlier) ≢ most_nodes = eqb-false _ _ h in omega (arith, few, ne, length-append (declared node_name earlier) (n ∷ [])))
+room-before earlier (leaf n u a q ns) h few = (let ne : length (declared node_name earlier) ≢ most_nodes = eqb-false _ _ h in omega (arith, few, ne, length-append (declared node_name earlier) (n ∷ [])))
+room-before earlier (node n u a q ns) h few = (let ne : length (declared node_name earlier) ≢ most_nodes = eqb-false _ _ h in omega (arith, few, ne, length-append (declared node_name earlier) (n ∷ [])))
 
 pub some-entry : Entry
 some-entry = (0, version 1)

@@ -12,8 +12,8 @@ one-more earlier (push n t) h few = omega (arith, few, length-append (declared c
 one-more earlier (pop n t) h few = omega (arith, few, length-append (declared class_name earlier) [])
 one-more earlier (class n a cs) h few = (let ne : length (declared class_name earlier) ≢ most_classes = eqb-false _ _ h in omega (arith, few, ne, length-append (declared class_name earlier) (n ∷ [])))
 one-more earlier (filtered n a cs) h few = (let ne : length (declared class_name earlier) ≢ most_classes = eqb-false _ _ h in omega (arith, few, ne, length-append (declared class_name earlier) (n ∷ [])))
-one-more earlier (leaf n u a l ns) h few = omega (arith, few, length-append (declared class_name earlier) [])
-one-more earlier (node n u a ns) h few = omega (arith, few, length-append (declared class_name earlier) [])
+one-more earlier (leaf n u a q ns) h few = omega (arith, few, length-append (declared class_name earlier) [])
+one-more earlier (node n u a q ns) h few = omega (arith, few, length-append (declared class_name earlier) [])
 
 names-classes : (es : List Entry) → length (classes_in es) ≡ length (declared class_name es)
 names-classes [] = refl
@@ -25,8 +25,8 @@ names-classes ((n, push k t) ∷ es) = names-classes es
 names-classes ((n, pop k t) ∷ es) = names-classes es
 names-classes ((n, class k a cs) ∷ es) = ap suc (names-classes es)
 names-classes ((n, filtered k a cs) ∷ es) = ap suc (names-classes es)
-names-classes ((n, leaf k u a l ns) ∷ es) = names-classes es
-names-classes ((n, node k u a ns) ∷ es) = names-classes es
+names-classes ((n, leaf k u a q ns) ∷ es) = names-classes es
+names-classes ((n, node k u a q ns) ∷ es) = names-classes es
 
 pub few-classes : (es : List Entry) → AreRising es → NoLine (IsOneTooMany es) es → length (classes_in es) ≤ most_classes
 few-classes es rising fine =
@@ -49,8 +49,8 @@ behind seen found ((n, keep k s) ∷ es) so h = behind seen found es so h
 behind seen found ((n, each k s) ∷ es) so h = behind seen found es so h
 behind seen found ((n, push k t) ∷ es) so h = behind seen found es so h
 behind seen found ((n, pop k t) ∷ es) so h = behind seen found es so h
-behind seen found ((n, leaf k u a l ns) ∷ es) so h = behind seen found es so h
-behind seen found ((n, node k u a ns) ∷ es) so h = behind seen found es so h
+behind seen found ((n, leaf k u a q ns) ∷ es) so h = behind seen found es so h
+behind seen found ((n, node k u a q ns) ∷ es) so h = behind seen found es so h
 behind seen found ((n, class k a []) ∷ es) so h =
     subst (λ (all : List (List (List Test))). HasCatchAll all) (append_assoc seen ([] ∷ []) (conditions_in es))
     (behind (seen ++ [] ∷ []) true es (record { caught = λ _. (seen, refl) }) h)

@@ -68,8 +68,8 @@ children-are (push n t) = refl
 children-are (pop n t) = refl
 children-are (class n a cs) = refl
 children-are (filtered n a cs) = refl
-children-are (leaf n u a l ns) = refl
-children-are (node n u a ns) = refl
+children-are (leaf n u a q ns) = refl
+children-are (node n u a q ns) = refl
 
 listed-step : (e : Entry) (b : Bool) (es ns : List Entry) → children e.1 ≡ cond b (children e.1) [] → listed children es ≡ listed children ns → listed children (e ∷ es) ≡ listed children (cond b (e ∷ ns) ns)
 listed-step e true es ns own rest = ap (λ l. children e.1 ++ l) rest

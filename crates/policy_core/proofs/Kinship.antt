@@ -59,8 +59,8 @@ family-is (push n t) = refl
 family-is (pop n t) = refl
 family-is (class n a cs) = refl
 family-is (filtered n a cs) = refl
-family-is (leaf n u a l ns) = refl
-family-is (node n u a ns) = refl
+family-is (leaf n u a q ns) = refl
+family-is (node n u a q ns) = refl
 
 pub families-of-nodes : (es : List Entry) → filter_map (λ e. family e.1) es ≡ map (λ e. children e.1) (node_entries es)
 families-of-nodes es = by-nodes (λ e. children e.1) (λ e. family e.1) (λ e. family-is e.1) es

@@ -14,8 +14,8 @@ names-classes ((n, push m t) ∷ es) = names-classes es
 names-classes ((n, pop m t) ∷ es) = names-classes es
 names-classes ((n, class m a cs) ∷ es) = ap (λ l. m ∷ l) (names-classes es)
 names-classes ((n, filtered m a cs) ∷ es) = ap (λ l. m ∷ l) (names-classes es)
-names-classes ((n, leaf m u a l ns) ∷ es) = names-classes es
-names-classes ((n, node m u a ns) ∷ es) = names-classes es
+names-classes ((n, leaf m u a q ns) ∷ es) = names-classes es
+names-classes ((n, node m u a q ns) ∷ es) = names-classes es
 
 pub leaf-for : (es : List Entry) (t : Tree ℕ) (name : Name) (k : ℕ) → IsTreeOf (graph_of es) t → IsHome es (rows 0 [] t) name k → IsLeafFor es (nodes_at es t) name (row_at (rows 0 [] t) k).address
 leaf-for es t name k tree home =

@@ -81,8 +81,8 @@ stated all ((n, push m t) ∷ es) i l = later all (n, push m t) es i (record { n
 stated all ((n, pop m t) ∷ es) i l = later all (n, pop m t) es i (record { name = refl; family = refl; node = refl }) (stated all es i l)
 stated all ((n, class m a cs) ∷ es) i l = later all (n, class m a cs) es i (record { name = refl; family = refl; node = refl }) (stated all es i l)
 stated all ((n, filtered m a cs) ∷ es) i l = later all (n, filtered m a cs) es i (record { name = refl; family = refl; node = refl }) (stated all es i l)
-stated all ((n, leaf m u a l ns) ∷ es) i k = counted all (n, leaf m u a l ns) es i (record { own = m; listed = []; said = _; name = refl; family = refl; node = refl }) (λ j m. stated all es j m) k
-stated all ((n, node m u a ns) ∷ es) i l = counted all (n, node m u a ns) es i (record { own = m; listed = ns; said = _; name = refl; family = refl; node = refl }) (λ j m. stated all es j m) l
+stated all ((n, leaf m u a q ns) ∷ es) i k = counted all (n, leaf m u a q ns) es i (record { own = m; listed = []; said = _; name = refl; family = refl; node = refl }) (λ j m. stated all es j m) k
+stated all ((n, node m u a q ns) ∷ es) i l = counted all (n, node m u a q ns) es i (record { own = m; listed = ns; said = _; name = refl; family = refl; node = refl }) (λ j m. stated all es j m) l
 
 -- there are as many families as declared names
 pub length-families : (es : List Entry) → length (families es) ≡ length (declared node_name es)
@@ -95,8 +95,8 @@ length-families ((n, push m t) ∷ es) = length-families es
 length-families ((n, pop m t) ∷ es) = length-families es
 length-families ((n, class m a cs) ∷ es) = length-families es
 length-families ((n, filtered m a cs) ∷ es) = length-families es
-length-families ((n, leaf m u a l ns) ∷ es) = ap suc (length-families es)
-length-families ((n, node m u a ns) ∷ es) = ap suc (length-families es)
+length-families ((n, leaf m u a q ns) ∷ es) = ap suc (length-families es)
+length-families ((n, node m u a q ns) ∷ es) = ap suc (length-families es)
 
 -- the names of the nodes
 pub names-nodes : (all es : List Entry) → map (λ (n : Node). n.name) (nodes_over all es) ≡ declared node_name es
@@ -109,5 +109,5 @@ names-nodes all ((n, push m t) ∷ es) = names-nodes all es
 names-nodes all ((n, pop m t) ∷ es) = names-nodes all es
 names-nodes all ((n, class m a cs) ∷ es) = names-nodes all es
 names-nodes all ((n, filtered m a cs) ∷ es) = names-nodes all es
-names-nodes all ((n, leaf m u a l ns) ∷ es) = ap (λ l. m ∷ l) (names-nodes all es)
-names-nodes all ((n, node m u a ns) ∷ es) = ap (λ l. m ∷ l) (names-nodes all es)
+names-nodes all ((n, leaf m u a q ns) ∷ es) = ap (λ l. m ∷ l) (names-nodes all es)
+names-nodes all ((n, node m u a q ns) ∷ es) = ap (λ l. m ∷ l) (names-nodes all es)

@@ -4,9 +4,10 @@ use Rattle.policy_text_defs.specs.declared.condition.FieldName.{FieldName}
 use Rattle.policy_text_defs.specs.Ranges.{field_most}
 use Rattle.policy_text_defs.specs.declared.edition.Edition.{Edition}
 use Rattle.policy_text_defs.specs.declared.edition.Edition.TheVariants.{Classic, Third}
+use Rattle.policy_text_defs.specs.Settings.{no_queueing}
 use Rattle.policy_text_defs.specs.Sense.{leaf}
 use Rattle.policy_text_defs.specs.Statements.{IsVersion}
-use Rattle.policy_text_defs.specs.Valid.{HasParts, IsValidIn}
+use Rattle.policy_text_defs.specs.Valid.{HasParts, IsValidIn, AreValidLimits}
 use Rattle.policy_text_defs.specs.EditionNames.{has_names}
 use Rattle.policy_text_defs.specs.Editions.{is_of}
 use Rattle.policy_text_defs.proofs.TokenLaws.{both_true}
@@ -15,6 +16,9 @@ use Rattle.policy_rules.specs.Names.{children}
 -- ---- each statement can be written
 no-attribute : AreValidAttributes unset
 no-attribute = record { prio = tt; weight = tt; slack = tt }
+
+no-limits : AreValidLimits no_queueing
+no-limits = record { packets = tt; bytes = tt; per_flow = tt }
 
 a-weight : (n : ℕ) → 1 ≤ n → n ≤ 65535 → AreValidAttributes (of_weight (Some n))
 a-weight n above below = record { prio = tt; weight = record { above = above; below = below }; slack = tt }
@@ -28,11 +32,11 @@ a-field f n below = record { ordered = omega arith; below = below }
 a-class : (n : Name) (cs : List Condition) → IsName n → AllByRecursion IsValidCondition cs → IsValid (class n unset cs)
 a-class n cs name conditions = (name, no-attribute, conditions)
 
-a-leaf : (n u : Name) (a : Attrs) → IsName n → IsName u → AreValidAttributes a → IsValid (leaf n u a None (n ∷ []))
-a-leaf n u a name used attributes = (name, used, attributes, tt, record { some = omega arith; each = (name, tt) })
+a-leaf : (n u : Name) (a : Attrs) → IsName n → IsName u → AreValidAttributes a → IsValid (leaf n u a no_queueing (n ∷ []))
+a-leaf n u a name used attributes = (name, used, attributes, no-limits, record { some = omega arith; each = (name, tt) })
 
-a-node : (n u : Name) (a : Attrs) (ns : List Name) → IsName n → IsName u → AreValidAttributes a → 0 < length ns → AllByRecursion IsName ns → IsValid (node n u a ns)
-a-node n u a ns name used attributes some each = (name, used, attributes, record { some = some; each = each })
+a-node : (n u : Name) (a : Attrs) (ns : List Name) → IsName n → IsName u → AreValidAttributes a → 0 < length ns → AllByRecursion IsName ns → IsValid (node n u a no_queueing ns)
+a-node n u a ns name used attributes some each = (name, used, attributes, no-limits, record { some = some; each = each })
 
 a-version : IsVersion Classic 1
 a-version = record { above = omega arith; below = omega arith }

@@ -15,11 +15,11 @@ at-some P test es (k, e, within, is, p) all = (e, p, subst (λ (f : Entry). test
 
 -- a statement that declares no node of this name
 abbrev is_no_node : Name → Sense → Bool
-is_no_node a (node n u b ns) = not (bytes_eq n a)
+is_no_node a (node n u b q ns) = not (bytes_eq n a)
 is_no_node a s = true
 
 not-inner : (es : List Entry) (n : Node) (names : List Name) (s : Sense) → IsInnerOf es n names s → is_no_node n.name s ≡ true → ⊥
-not-inner es n names (node m u b ns) is other = (let same : bytes_eq m n.name ≡ true = (bytes_eq-Decides m n.name).1 (sym is.0.name_is) in cc)
+not-inner es n names (node m u b q ns) is other = (let same : bytes_eq m n.name ≡ true = (bytes_eq-Decides m n.name).1 (sym is.0.name_is) in cc)
 not-inner es n names s is other = absurd is
 
 leaf-shape : (es : List Entry) (a : Name) → list_all (λ e. is_no_node a e.1) es ≡ true → HasShape es (leaf_of tt) a
@@ -43,16 +43,16 @@ same-names (a ∷ rest) (b ∷ others) h =
 
 -- a statement that declares no leaf of this name, and no node of this name with other children
 abbrev lists_these : Name → List Name → Sense → Bool
-lists_these a ns (leaf n u b l cs) = not (bytes_eq n a)
-lists_these a ns (node n u b ms) = not (bytes_eq n a) || same_names ms ns
+lists_these a ns (leaf n u b q cs) = not (bytes_eq n a)
+lists_these a ns (node n u b q ms) = not (bytes_eq n a) || same_names ms ns
 lists_these a ns s = true
 
 not-leaf : (es : List Entry) (n : Node) (ns : List Name) (s : Sense) → IsLeafOf es n s → lists_these n.name ns s ≡ true → ⊥
-not-leaf es n ns (leaf m u b l cs) is other = (let same : bytes_eq m n.name ≡ true = (bytes_eq-Decides m n.name).1 (sym is.name_is) in cc)
+not-leaf es n ns (leaf m u b q cs) is other = (let same : bytes_eq m n.name ≡ true = (bytes_eq-Decides m n.name).1 (sym is.name_is) in cc)
 not-leaf es n ns s is other = absurd is
 
 children-are : (es : List Entry) (n : Node) (names ns : List Name) (s : Sense) → IsInnerOf es n names s → lists_these n.name ns s ≡ true → names ≡ ns
-children-are es n names ns (node m u b ms) is these =
+children-are es n names ns (node m u b q ms) is these =
     let same : bytes_eq m n.name ≡ true = (bytes_eq-Decides m n.name).1 (sym is.0.name_is) in
     let here : same_names ms ns ≡ true = cc in
     is.1 ∙ same-names ms ns here

@@ -31,8 +31,8 @@ lister-name n c (push m t) h = absurd h
 lister-name n c (pop m t) h = absurd h
 lister-name n c (class m a cs) h = absurd h
 lister-name n c (filtered m a cs) h = absurd h
-lister-name n c (leaf m u a l ns) h = ap Some h.0
-lister-name n c (node m u a ns) h = absurd h
+lister-name n c (leaf m u a q ns) h = ap Some h.0
+lister-name n c (node m u a q ns) h = absurd h
 
 lister-classes : (n c : Name) (s : Sense) → ListsClass n c s → Contains (leaf_classes s) c
 lister-classes n c (version v) h = absurd h
@@ -43,8 +43,8 @@ lister-classes n c (push m t) h = absurd h
 lister-classes n c (pop m t) h = absurd h
 lister-classes n c (class m a cs) h = absurd h
 lister-classes n c (filtered m a cs) h = absurd h
-lister-classes n c (leaf m u a l ns) h = h.1
-lister-classes n c (node m u a ns) h = absurd h
+lister-classes n c (leaf m u a q ns) h = h.1
+lister-classes n c (node m u a q ns) h = absurd h
 
 -- leaves that list the same class have the same name
 one-name : (es : List Entry) (c : Name) → NoLine (IsNotListedOnce es) es → has (declared class_name es) c ≡ true → (n m : Name) → Any (λ (e : Entry). ListsClass n c e.1) es → Any (λ (e : Entry). ListsClass m c e.1) es → n ≡ m

@@ -1,6 +1,9 @@
 -- Two trees with the same root are equal.
-use Rattle.policy_core.proofs.Prelude.{List, ◌≡◌, ℕ, ap, sym, [], ◌∙◌, arith, length, refl, get_or, suc, Some, None, Option, Any, drop, Node, Marks, NoLine, IsRepeated, AreRising, Name, node_name, IsTreeIn, AreTreesIn, IsInnerOf, IsLeafOf, names_of, IsNodeOf, Entry, Sense, node, class, filtered, version, each, keep, pop, push, transaction, Attrs, Program, Tree, Trees, inner, more, none, root_of}
+use Rattle.policy_core.proofs.Prelude.{List, ◌≡◌, ap, sym, [], ◌∙◌, arith, length, refl, get_or, suc, Some, Any, drop, Node, Marks, NoLine, IsRepeated, AreRising, Name, node_name, IsTreeIn, AreTreesIn, IsInnerOf, IsLeafOf, names_of, IsNodeOf, Entry, Sense, node, class, filtered, version, each, keep, pop, push, transaction, Attrs, Program, Tree, Trees, inner, more, none, root_of}
 use Rattle.tree_defs.specs.Tree.{leaf as leaf_of}
+use Rattle.rank_defs.specs.declared.flow_group.FlowGroup.{FlowGroup}
+use Rattle.policy_defs.specs.declared.limits.Limits.{Limits}
+use Rattle.policy_text_defs.specs.declared.queueing.Queueing.{Queueing}
 use Rattle.policy_text_defs.specs.Sense.{leaf}
 use Rattle.policy_rules.specs.Names.{children}
 use Rattle.policy_core.proofs.PlacePrograms.{some-same}
@@ -17,8 +20,8 @@ leaf-name es n (push m t) h = absurd h
 leaf-name es n (pop m t) h = absurd h
 leaf-name es n (class m a cs) h = absurd h
 leaf-name es n (filtered m a cs) h = absurd h
-leaf-name es n (leaf m u a l ns) h = ap Some (sym h.name_is)
-leaf-name es n (node m u a ns) h = absurd h
+leaf-name es n (leaf m u a q ns) h = ap Some (sym h.name_is)
+leaf-name es n (node m u a q ns) h = absurd h
 
 pub inner-name : (es : List Entry) (n : Node) (names : List Name) (s : Sense) → IsInnerOf es n names s → node_name s ≡ Some n.name
 inner-name es n names (version v) h = absurd h
@@ -29,8 +32,8 @@ inner-name es n names (push m t) h = absurd h
 inner-name es n names (pop m t) h = absurd h
 inner-name es n names (class m a cs) h = absurd h
 inner-name es n names (filtered m a cs) h = absurd h
-inner-name es n names (leaf m u a l ns) h = absurd h
-inner-name es n names (node m u a ns) h = ap Some (sym h.0.name_is)
+inner-name es n names (leaf m u a q ns) h = absurd h
+inner-name es n names (node m u a q ns) h = ap Some (sym h.0.name_is)
 
 -- it lists the children
 pub inner-children : (es : List Entry) (n : Node) (names : List Name) (s : Sense) → IsInnerOf es n names s → names ≡ children s
@@ -42,16 +45,17 @@ inner-children es n names (push m t) h = absurd h
 inner-children es n names (pop m t) h = absurd h
 inner-children es n names (class m a cs) h = absurd h
 inner-children es n names (filtered m a cs) h = absurd h
-inner-children es n names (leaf m u a l ns) h = absurd h
-inner-children es n names (node m u a ns) h = h.1
+inner-children es n names (leaf m u a q ns) h = absurd h
+inner-children es n names (node m u a q ns) h = h.1
 
-one-node : (es : List Entry) (n m : Node) (name used : Name) (a : Attrs) (limit : Option ℕ) → IsNodeOf es n name used a limit → IsNodeOf es m name used a limit → n ≡ m
-one-node es n m name used a limit h k =
-    ap (λ (x : Name). record { name = x; using = n.using; program = n.program; marks = n.marks; limit = n.limit }) (h.name_is ∙ sym k.name_is)
-    ∙ ap (λ (x : Name). record { name = m.name; using = x; program = n.program; marks = n.marks; limit = n.limit }) (h.using_is ∙ sym k.using_is)
-    ∙ ap (λ (p : Program). record { name = m.name; using = m.using; program = p; marks = n.marks; limit = n.limit }) (some-same (sym h.program_is ∙ k.program_is))
-    ∙ ap (λ (x : Marks). record { name = m.name; using = m.using; program = m.program; marks = x; limit = n.limit }) (h.marks_are ∙ sym k.marks_are)
-    ∙ ap (λ (l : Option ℕ). record { name = m.name; using = m.using; program = m.program; marks = m.marks; limit = l }) (h.limit_is ∙ sym k.limit_is)
+one-node : (es : List Entry) (n m : Node) (name used : Name) (a : Attrs) (q : Queueing) → IsNodeOf es n name used a q → IsNodeOf es m name used a q → n ≡ m
+one-node es n m name used a q h k =
+    ap (λ (x : Name). record { name = x; using = n.using; program = n.program; marks = n.marks; limits = n.limits; group = n.group }) (h.name_is ∙ sym k.name_is)
+    ∙ ap (λ (x : Name). record { name = m.name; using = x; program = n.program; marks = n.marks; limits = n.limits; group = n.group }) (h.using_is ∙ sym k.using_is)
+    ∙ ap (λ (p : Program). record { name = m.name; using = m.using; program = p; marks = n.marks; limits = n.limits; group = n.group }) (some-same (sym h.program_is ∙ k.program_is))
+    ∙ ap (λ (x : Marks). record { name = m.name; using = m.using; program = m.program; marks = x; limits = n.limits; group = n.group }) (h.marks_are ∙ sym k.marks_are)
+    ∙ ap (λ (l : Limits). record { name = m.name; using = m.using; program = m.program; marks = m.marks; limits = l; group = n.group }) (h.limits_are ∙ sym k.limits_are)
+    ∙ ap (λ (g : FlowGroup). record { name = m.name; using = m.using; program = m.program; marks = m.marks; limits = m.limits; group = g }) (h.group_is ∙ sym k.group_is)
 
 one-leaf : (es : List Entry) (n m : Node) (s : Sense) → IsLeafOf es n s → IsLeafOf es m s → n ≡ m
 one-leaf es n m (version v) h k = absurd h
@@ -62,8 +66,8 @@ one-leaf es n m (push w t) h k = absurd h
 one-leaf es n m (pop w t) h k = absurd h
 one-leaf es n m (class w a cs) h k = absurd h
 one-leaf es n m (filtered w a cs) h k = absurd h
-one-leaf es n m (leaf w u a l ns) h k = one-node es n m w u a l h k
-one-leaf es n m (node w u a ns) h k = absurd h
+one-leaf es n m (leaf w u a q ns) h k = one-node es n m w u a q h k
+one-leaf es n m (node w u a q ns) h k = absurd h
 
 one-inner : (es : List Entry) (n m : Node) (names others : List Name) (s : Sense) → IsInnerOf es n names s → IsInnerOf es m others s → n ≡ m
 one-inner es n m names others (version v) h k = absurd h
@@ -74,8 +78,8 @@ one-inner es n m names others (push w t) h k = absurd h
 one-inner es n m names others (pop w t) h k = absurd h
 one-inner es n m names others (class w a cs) h k = absurd h
 one-inner es n m names others (filtered w a cs) h k = absurd h
-one-inner es n m names others (leaf w u a l ns) h k = absurd h
-one-inner es n m names others (node w u a ns) h k = one-node es n m w u a None h.0 k.0
+one-inner es n m names others (leaf w u a q ns) h k = absurd h
+one-inner es n m names others (node w u a q ns) h k = one-node es n m w u a q h.0 k.0
 
 leaf-not_inner : (es : List Entry) (n m : Node) (names : List Name) (s : Sense) → IsLeafOf es n s → IsInnerOf es m names s → ⊥
 leaf-not_inner es n m names (version v) h k = h
@@ -86,8 +90,8 @@ leaf-not_inner es n m names (push w t) h k = h
 leaf-not_inner es n m names (pop w t) h k = h
 leaf-not_inner es n m names (class w a cs) h k = h
 leaf-not_inner es n m names (filtered w a cs) h k = h
-leaf-not_inner es n m names (leaf w u a l ns) h k = k
-leaf-not_inner es n m names (node w u a ns) h k = h
+leaf-not_inner es n m names (leaf w u a q ns) h k = k
+leaf-not_inner es n m names (node w u a q ns) h k = h
 
 -- ---- trees whose statements are the same at every level
 module _ (es : List Entry) (rising : AreRising es) (new : NoLine (IsRepeated es) es) where

@@ -25,8 +25,8 @@ names-bodies ((n, push m t) ∷ es) = names-bodies es
 names-bodies ((n, pop m t) ∷ es) = names-bodies es
 names-bodies ((n, class m a cs) ∷ es) = names-bodies es
 names-bodies ((n, filtered m a cs) ∷ es) = names-bodies es
-names-bodies ((n, leaf m u a l ns) ∷ es) = names-bodies es
-names-bodies ((n, node m u a ns) ∷ es) = names-bodies es
+names-bodies ((n, leaf m u a q ns) ∷ es) = names-bodies es
+names-bodies ((n, node m u a q ns) ∷ es) = names-bodies es
 
 find-there : (u : Name) (bs : List Body) → has (map (λ (b : Body). b.name) bs) u ≡ true → is_some (find (λ (b : Body). bytes_eq u b.name) bs) ≡ true
 find-there u [] h = absurd (true≢false (sym h))

@@ -118,8 +118,11 @@ module _ (v : ℕ) (tree : Numbered) (ss : List PolicyNode) (ps : List Program) 
   pub marks-are : (k : ℕ) (s : PolicyNode) → k < nodes r.policy.tree → s ≡ station_at ss (row_at tree.rows k).node → IsSomeAnd (node_at r.policy.tree (address_at r.policy.tree k)) (λ n. told s.marks ≡ n.marks)
   marks-are k s l own = some-and _ _ (λ n. told s.marks ≡ n.marks) (node-is k l) (ap (λ (x : PolicyNode). told x.marks) own)
 
-  pub limit-is : (k : ℕ) (s : PolicyNode) → k < nodes r.policy.tree → s ≡ station_at ss (row_at tree.rows k).node → IsSomeAnd (node_at r.policy.tree (address_at r.policy.tree k)) (λ n. s.limit ≡ n.limit)
-  limit-is k s l own = some-and _ _ (λ n. s.limit ≡ n.limit) (node-is k l) (ap (λ (x : PolicyNode). x.limit) own)
+  pub limits-are : (k : ℕ) (s : PolicyNode) → k < nodes r.policy.tree → s ≡ station_at ss (row_at tree.rows k).node → IsSomeAnd (node_at r.policy.tree (address_at r.policy.tree k)) (λ n. s.limits ≡ n.limits)
+  limits-are k s l own = some-and _ _ (λ n. s.limits ≡ n.limits) (node-is k l) (ap (λ (x : PolicyNode). x.limits) own)
+
+  pub group-is : (k : ℕ) (s : PolicyNode) → k < nodes r.policy.tree → s ≡ station_at ss (row_at tree.rows k).node → IsSomeAnd (node_at r.policy.tree (address_at r.policy.tree k)) (λ n. s.group ≡ n.group)
+  group-is k s l own = some-and _ _ (λ n. s.group ≡ n.group) (node-is k l) (ap (λ (x : PolicyNode). x.group) own)
 
   pub using-is : (k : ℕ) (s : PolicyNode) (used : List ℕ) → k < nodes r.policy.tree → s ≡ station_at ss (row_at tree.rows k).node → used ≡ s.using → IsSomeAnd (node_at r.policy.tree (address_at r.policy.tree k)) (λ n. used ≡ n.using)
   using-is k s used l own is = some-and _ _ (λ n. used ≡ n.using) (node-is k l) (is ∙ ap (λ (x : PolicyNode). x.using) own)

@@ -13,7 +13,7 @@ pub use Rattle.std.specs.List.{AllByRecursion, list_all, cons_option, IsDistinct
 pub use Rattle.std.specs.Option.{option_map_or, option_and_then, option_to_list}
 pub use Rattle.std.specs.Prelude.{IsSomeAnd, codes, IfErr, OnOk, slice_get, ◌==◌}
 pub use Rattle.std.specs.Str.{bytes_eq}
-pub use Rattle.policy_defs.specs.Accepted.{IsAccepted, AreMarksInRange, HasFewChildren, HasLimitsAtLeaves, HaveFewChildren, HaveLimitsAtLeaves, IsClassReady, IsNodeReady}
+pub use Rattle.policy_defs.specs.Accepted.{IsAccepted, AreMarksInRange, HasFewChildren, HaveFewChildren, IsClassReady, IsNodeReady}
 pub use Rattle.policy_defs.specs.BuiltIn.{AreBuiltIn}
 pub use Rattle.policy_defs.specs.Numbers.{number_at, number_below}
 pub use Rattle.policy_defs.specs.Policy.{Node, node_at, node_below, Marks, Policy, name_at}

@@ -1,8 +1,9 @@
 -- The tree of nodes that statements declare, from the tree of their numbers.
-use Rattle.policy_core.proofs.Prelude.{List, ◌≡◌, ℕ, ap, sym, subst, [], ◌∙◌, arith, length, ◌<◌, ◌∷◌, refl, get_or, suc, true, Some, map, None, Option, IsTrue, and_parts, AllByRecursion, list_all, Node, place-within, at-place, at-places, AreAccepted, NoLine, root, IsUnknown, is_known, is_transaction_known, graph_of, nodes_in, family, node_in, said, Name, declared, node_name, has, before, place, IsTreeIn, AreTreesIn, IsInnerOf, IsLeafOf, names_of, IsNodeOf, Entry, Sense, node, class, filtered, version, each, keep, pop, push, transaction, IsValid, Attrs, Tree, Trees, inner, more, none, root_of, IsTreeOf, AreTreesOf, labels, map_tree, map_trees, node_numbered, nodes_at, AreValid, IsNodeTree}
+use Rattle.policy_core.proofs.Prelude.{List, ◌≡◌, ℕ, ap, sym, subst, [], ◌∙◌, arith, length, ◌<◌, ◌∷◌, refl, get_or, suc, true, Some, map, IsTrue, and_parts, AllByRecursion, list_all, Node, place-within, at-place, at-places, AreAccepted, NoLine, root, IsUnknown, is_known, is_transaction_known, graph_of, nodes_in, family, node_in, said, Name, declared, node_name, has, before, place, IsTreeIn, AreTreesIn, IsInnerOf, IsLeafOf, names_of, IsNodeOf, Entry, Sense, node, class, filtered, version, each, keep, pop, push, transaction, IsValid, Attrs, Tree, Trees, inner, more, none, root_of, IsTreeOf, AreTreesOf, labels, map_tree, map_trees, node_numbered, nodes_at, AreValid, IsNodeTree}
 use Rattle.std.proofs.Common.{All}
 use Rattle.std.proofs.Math.ListN.{get_or-map}
 use Rattle.tree_defs.specs.Tree.{leaf as leaf_of}
+use Rattle.policy_text_defs.specs.declared.queueing.Queueing.{Queueing}
 use Rattle.policy_text_defs.specs.Sense.{leaf}
 use Rattle.tree_graph.specs.Descent.{children}
 use Rattle.policy_core.proofs.NodeStatements.{families, IsStated, stated, names-nodes}
@@ -10,8 +11,8 @@ use Rattle.policy_core.proofs.PlacePrograms.{none-some, some-same, program-there
 use Rattle.policy_core.proofs.AcceptedStatements.{known-at, known-there, root-there}
 
 -- ---- one statement
-is-node : (es : List Entry) (n : Node) (name used : Name) (a : Attrs) (limit : Option ℕ) → Some (said es name used a limit) ≡ Some n → is_transaction_known es used ≡ true → IsNodeOf es n name used a limit
-is-node es n name used a limit e known = subst (λ (m : Node). IsNodeOf es m name used a limit) (some-same e) (record { name_is = refl; using_is = refl; program_is = program-there es used known; marks_are = refl; limit_is = refl })
+is-node : (es : List Entry) (n : Node) (name used : Name) (a : Attrs) (q : Queueing) → Some (said es name used a q) ≡ Some n → is_transaction_known es used ≡ true → IsNodeOf es n name used a q
+is-node es n name used a q e known = subst (λ (m : Node). IsNodeOf es m name used a q) (some-same e) (record { name_is = refl; using_is = refl; program_is = program-there es used known; marks_are = refl; limits_are = refl; group_is = refl })
 
 pub is-leaf : (es earlier : List Entry) (n : Node) (s : Sense) → IsValid s → family s ≡ Some [] → node_in es s ≡ Some n → is_known es earlier s ≡ true → IsLeafOf es n s
 is-leaf es earlier n (version v) valid f e known = absurd (none-some f)
@@ -22,8 +23,8 @@ is-leaf es earlier n (push m t) valid f e known = absurd (none-some f)
 is-leaf es earlier n (pop m t) valid f e known = absurd (none-some f)
 is-leaf es earlier n (class m a cs) valid f e known = absurd (none-some f)
 is-leaf es earlier n (filtered m a cs) valid f e known = absurd (none-some f)
-is-leaf es earlier n (leaf m u a l ns) valid f e known = is-node es n m u a l e (and_parts _ _ known).0
-is-leaf es earlier n (node m u a ns) valid f e known = (let none : length ns ≡ 0 = ap length (some-same f) in absurd (omega (arith, none, valid.3.some)))
+is-leaf es earlier n (leaf m u a q ns) valid f e known = is-node es n m u a q e (and_parts _ _ known).0
+is-leaf es earlier n (node m u a q ns) valid f e known = (let none : length ns ≡ 0 = ap length (some-same f) in absurd (omega (arith, none, valid.4.some)))
 
 pub is-inner : (es earlier : List Entry) (n : Node) (names ns : List Name) (s : Sense) → 0 < length ns → names ≡ ns → family s ≡ Some ns → node_in es s ≡ Some n → is_known es earlier s ≡ true → IsInnerOf es n names s
 is-inner es earlier n names ns (version v) some same f e known = absurd (none-some f)
@@ -34,8 +35,8 @@ is-inner es earlier n names ns (push m t) some same f e known = absurd (none-som
 is-inner es earlier n names ns (pop m t) some same f e known = absurd (none-some f)
 is-inner es earlier n names ns (class m a cs) some same f e known = absurd (none-some f)
 is-inner es earlier n names ns (filtered m a cs) some same f e known = absurd (none-some f)
-is-inner es earlier n names ns (leaf m u a l ms) some same f e known = (let none : length ns ≡ 0 = ap length (sym (some-same f)) in absurd (omega (arith, none, some)))
-is-inner es earlier n names ns (node m u a ms) some same f e known = (is-node es n m u a None e (and_parts _ _ known).0, same ∙ sym (some-same f))
+is-inner es earlier n names ns (leaf m u a q ms) some same f e known = (let none : length ns ≡ 0 = ap length (sym (some-same f)) in absurd (omega (arith, none, some)))
+is-inner es earlier n names ns (node m u a q ms) some same f e known = (is-node es n m u a q e (and_parts _ _ known).0, same ∙ sym (some-same f))
 
 -- the names that a node lists are known
 pub family-known : (es earlier : List Entry) (ns : List Name) (s : Sense) → family s ≡ Some ns → is_known es earlier s ≡ true → list_all (has (declared node_name es)) ns ≡ true
@@ -47,8 +48,8 @@ family-known es earlier ns (push m t) f known = absurd (none-some f)
 family-known es earlier ns (pop m t) f known = absurd (none-some f)
 family-known es earlier ns (class m a cs) f known = absurd (none-some f)
 family-known es earlier ns (filtered m a cs) f known = absurd (none-some f)
-family-known es earlier ns (leaf m u a l ms) f known = ap (list_all (has (declared node_name es))) (sym (some-same f))
-family-known es earlier ns (node m u a ms) f known = ap (list_all (has (declared node_name es))) (sym (some-same f)) ∙ (and_parts _ _ known).1
+family-known es earlier ns (leaf m u a q ms) f known = ap (list_all (has (declared node_name es))) (sym (some-same f))
+family-known es earlier ns (node m u a q ms) f known = ap (list_all (has (declared node_name es))) (sym (some-same f)) ∙ (and_parts _ _ known).1
 
 -- ---- one number
 pub name-at : (es : List Entry) (i : ℕ) → (node_numbered es i).name ≡ get_or (declared node_name es) i []

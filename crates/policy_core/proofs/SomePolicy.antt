@@ -30,8 +30,8 @@ lister-childless n c (push m t) h = absurd h
 lister-childless n c (pop m t) h = absurd h
 lister-childless n c (class m a cs) h = absurd h
 lister-childless n c (filtered m a cs) h = absurd h
-lister-childless n c (leaf m u a l ns) h = refl
-lister-childless n c (node m u a ns) h = absurd h
+lister-childless n c (leaf m u a q ns) h = refl
+lister-childless n c (node m u a q ns) h = absurd h
 
 -- a statement that lists the class declares this node, so the node is a leaf
 leaf-of : (es : List Entry) (c n : Name) (k : ℕ) (e : Entry) (i : ℕ) → k < length es → get_or es k e ≡ e → node_name e.1 ≡ Some n → ListsClass n c e.1 → IsNodeAt es i e → IsLeafWith es c i

@@ -24,8 +24,8 @@ declares-again earlier (push m t) a is there = absurd (none-some is)
 declares-again earlier (pop m t) a is there = absurd (none-some is)
 declares-again earlier (class m c cs) a is there = absurd (none-some is)
 declares-again earlier (filtered m c cs) a is there = absurd (none-some is)
-declares-again earlier (leaf m u c l ns) a is there = ap (has (declared node_name earlier)) (some-same is) ∙ there
-declares-again earlier (node m u c ns) a is there = ap (has (declared node_name earlier)) (some-same is) ∙ there
+declares-again earlier (leaf m u c q ns) a is there = ap (has (declared node_name earlier)) (some-same is) ∙ there
+declares-again earlier (node m u c q ns) a is there = ap (has (declared node_name earlier)) (some-same is) ∙ there
 
 -- the later of two statements declares a different name
 module _ (es : List Entry) (rising : AreRising es) (new : NoLine (IsRepeated es) es) where

@@ -1,9 +1,10 @@
 -- Trees of nodes, from trees of their numbers.
-use Rattle.std.specs.Prelude.{ℕ, None, List, [], slice_index_or}
+use Rattle.std.specs.Prelude.{ℕ, List, [], slice_index_or}
 use Rattle.tree_defs.specs.Tree.{Tree, leaf, inner, Trees, none, more}
+use Rattle.rank_defs.specs.declared.flow_group.FlowGroup.TheVariants.{FiveTuple}
 use Rattle.rank_defs.specs.Builtins.{fifo}
 use Rattle.policy_text_defs.specs.Sense.{Entry}
-use Rattle.policy_defs.specs.Policy.{Node, no_marks}
+use Rattle.policy_defs.specs.Policy.{Node, no_marks, no_limits}
 use Rattle.policy_rules.specs.Graph.{nodes_in}
 
 -- a tree with a function applied at each node
@@ -18,7 +19,7 @@ abbrev mutual
 
 -- the node with a number, if nodes are numbered in the order of their statements
 abbrev pub node_numbered : List Entry → ℕ → Node
-node_numbered entries i = slice_index_or (nodes_in entries) i (record { name = []; using = []; program = fifo; marks = no_marks; limit = None })
+node_numbered entries i = slice_index_or (nodes_in entries) i (record { name = []; using = []; program = fifo; marks = no_marks; limits = no_limits; group = FiveTuple })
 
 -- the tree with nodes in place of their numbers
 abbrev pub nodes_at : List Entry → Tree ℕ → Tree Node

@@ -1,11 +1,12 @@
 -- The results built from statements: the stations of nodes and leaves, and the classes.
-use Rattle.std.specs.Prelude.{◌≡◌, ◌<◌, ℕ, Option, List, [], ◌∷◌, ◌++◌, map, length, slice_index_or, unwrap_or}
+use Rattle.std.specs.Prelude.{◌≡◌, ◌<◌, ℕ, List, [], ◌∷◌, ◌++◌, map, length, slice_index_or, unwrap_or}
 use Rattle.std.specs.List.{cons_option}
 use Rattle.rank_defs.specs.Builtins.{fifo}
 use Rattle.rank_defs.specs.Programs.{Program}
 use Rattle.policy_text_defs.specs.declared.test.Test.{Test}
 use Rattle.policy_defs.specs.Policy.{Node, Marks as Told}
 use Rattle.policy_text_defs.specs.declared.attribute.Attrs.{Attrs}
+use Rattle.policy_text_defs.specs.declared.queueing.Queueing.{Queueing}
 use Rattle.policy_text_defs.specs.Sense.{Sense, Entry}
 use Rattle.policy_rules.specs.Names.{Name}
 use Rattle.policy_rules.specs.Programs.{program_named}
@@ -26,9 +27,9 @@ pub record IsPlaceOf (es : List Entry) (used : Name) (place : ℕ) : Type 0 wher
   pub program_is : slice_index_or (known_programs es) place no_program ≡ unwrap_or (program_named es used) fifo
 
 -- the station has a program and the properties declared for the node
-pub record IsStationOf (es : List Entry) (name used : Name) (a : Attrs) (limit : Option ℕ) (s : PolicyNode) : Type 0 where
+pub record IsStationOf (es : List Entry) (name used : Name) (a : Attrs) (q : Queueing) (s : PolicyNode) : Type 0 where
   pub within : s.program < length (known_programs es)
-  pub node_is : node_of (known_programs es) s ≡ said es name used a limit
+  pub node_is : node_of (known_programs es) s ≡ said es name used a q
 
 -- the stations have one more at the end, if the statement declares a node or leaf
 pub record AreMore (es : List Entry) (s : Sense) (old new : List PolicyNode) : Type 0 where

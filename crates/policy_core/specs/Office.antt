@@ -1,6 +1,6 @@
 -- The policy of an office: eight classes of packets, each with its leaf, and two groups of four
 -- leaves below the root.
-use Rattle.std.specs.Prelude.{◌≡◌, ℕ, refl, Option, Some, None, List, [], ◌∷◌, ◌++◌, length, codes}
+use Rattle.std.specs.Prelude.{◌≡◌, ℕ, refl, Option, Some, List, [], ◌∷◌, ◌++◌, length, codes}
 use Rattle.std.specs.List.{concat}
 use Rattle.std.specs.Fmt.{digits}
 use Rattle.tree_defs.specs.Topology.{topology_of, complete}
@@ -11,6 +11,7 @@ use Rattle.policy_text_defs.specs.declared.condition.FieldName.{FieldName}
 use Rattle.policy_text_defs.specs.declared.condition.FieldName.TheVariants.{Dscp, Proto, Dport}
 use Rattle.policy_text_defs.specs.Statements.{unset, address_of}
 use Rattle.policy_text_defs.specs.Canonical.{canonical_text}
+use Rattle.policy_text_defs.specs.Settings.{no_queueing}
 use Rattle.policy_text_defs.specs.Sense.{Sense, Entry, numbered, version, class, leaf, node}
 use Rattle.policy_rules.specs.Accepted.{AreAccepted}
 use Rattle.policy_rules.specs.Resolved.{Resolved, IsResolved}
@@ -50,21 +51,21 @@ office_classes =
 
 abbrev pub office_leaves : List Sense
 office_leaves =
-    leaf (codes "voice") (codes "fifo") (of_weight (Some 4)) None (codes "voice" ∷ []) ∷
-    leaf (codes "video") (codes "fifo") (of_weight (Some 2)) None (codes "video" ∷ []) ∷
-    leaf (codes "ssh") (codes "fifo") unset None (codes "ssh" ∷ []) ∷
-    leaf (codes "dns") (codes "fifo") unset None (codes "dns" ∷ []) ∷
-    leaf (codes "web") (codes "stfq") (of_weight (Some 4)) None (codes "web" ∷ []) ∷
-    leaf (codes "mail") (codes "fifo") (of_weight (Some 2)) None (codes "mail" ∷ []) ∷
-    leaf (codes "backup") (codes "fifo") unset None (codes "backup" ∷ []) ∷
-    leaf (codes "other") (codes "fifo") unset None (codes "other" ∷ []) ∷ []
+    leaf (codes "voice") (codes "fifo") (of_weight (Some 4)) no_queueing (codes "voice" ∷ []) ∷
+    leaf (codes "video") (codes "fifo") (of_weight (Some 2)) no_queueing (codes "video" ∷ []) ∷
+    leaf (codes "ssh") (codes "fifo") unset no_queueing (codes "ssh" ∷ []) ∷
+    leaf (codes "dns") (codes "fifo") unset no_queueing (codes "dns" ∷ []) ∷
+    leaf (codes "web") (codes "stfq") (of_weight (Some 4)) no_queueing (codes "web" ∷ []) ∷
+    leaf (codes "mail") (codes "fifo") (of_weight (Some 2)) no_queueing (codes "mail" ∷ []) ∷
+    leaf (codes "backup") (codes "fifo") unset no_queueing (codes "backup" ∷ []) ∷
+    leaf (codes "other") (codes "fifo") unset no_queueing (codes "other" ∷ []) ∷ []
 
 -- two groups of four leaves; the urgent group is served first
 abbrev pub office_nodes : List Sense
 office_nodes =
-    node (codes "urgent") (codes "stfq") (of_prio (Some 0)) (codes "voice" ∷ codes "video" ∷ codes "ssh" ∷ codes "dns" ∷ []) ∷
-    node (codes "normal") (codes "stfq") (of_prio (Some 1)) (codes "web" ∷ codes "mail" ∷ codes "backup" ∷ codes "other" ∷ []) ∷
-    node (codes "root") (codes "strict") unset (codes "urgent" ∷ codes "normal" ∷ []) ∷ []
+    node (codes "urgent") (codes "stfq") (of_prio (Some 0)) no_queueing (codes "voice" ∷ codes "video" ∷ codes "ssh" ∷ codes "dns" ∷ []) ∷
+    node (codes "normal") (codes "stfq") (of_prio (Some 1)) no_queueing (codes "web" ∷ codes "mail" ∷ codes "backup" ∷ codes "other" ∷ []) ∷
+    node (codes "root") (codes "strict") unset no_queueing (codes "urgent" ∷ codes "normal" ∷ []) ∷ []
 
 abbrev pub office_statements : List Sense
 office_statements = version 1 ∷ office_classes ++ (office_leaves ++ office_nodes)

@@ -1,10 +1,11 @@
 -- The policy given by a tree of numbered nodes, stations, transactions and classes.
-use Rattle.std.specs.Prelude.{◌≡◌, ◌<◌, ◌≤◌, ℕ, None, List, [], ◌∷◌, ◌++◌, map, length, slice_index_or}
+use Rattle.std.specs.Prelude.{◌≡◌, ◌<◌, ◌≤◌, ℕ, List, [], ◌∷◌, ◌++◌, map, length, slice_index_or}
 use Rattle.std.specs.List.{AllByRecursion}
 use Rattle.tree_defs.specs.Tree.{Tree, most_nodes}
+use Rattle.rank_defs.specs.declared.flow_group.FlowGroup.TheVariants.{FiveTuple}
 use Rattle.rank_defs.specs.Programs.{Program}
 use Rattle.policy_text_defs.specs.declared.test.Test.{Test}
-use Rattle.policy_defs.specs.Policy.{Node, Class as Aimed, Marks as Told}
+use Rattle.policy_defs.specs.Policy.{Node, Class as Aimed, Marks as Told, no_limits}
 use Rattle.policy_defs.specs.Accepted.{IsAccepted}
 use Rattle.policy_defs.specs.BuiltIn.{AreBuiltIn}
 use Rattle.policy_rules.specs.Clauses.{most_classes}
@@ -21,7 +22,7 @@ told m = record { prio = m.prio; weight = m.weight; slack = m.slack }
 
 -- the default for an index past the end of a list
 abbrev pub no_station : PolicyNode
-no_station = record { name = []; using = []; program = 0; marks = record { prio = 0; weight = 1; slack = 0 }; limit = None }
+no_station = record { name = []; using = []; program = 0; marks = record { prio = 0; weight = 1; slack = 0 }; limits = no_limits; group = FiveTuple }
 
 abbrev pub no_program : Program
 no_program = record { keeps = []; eaches = []; push = []; pop = [] }
@@ -31,7 +32,7 @@ station_at stations i = slice_index_or stations i no_station
 
 -- a station, with its transaction
 abbrev pub node_of : List Program → PolicyNode → Node
-node_of programs s = record { name = s.name; using = s.using; program = slice_index_or programs s.program no_program; marks = told s.marks; limit = s.limit }
+node_of programs s = record { name = s.name; using = s.using; program = slice_index_or programs s.program no_program; marks = told s.marks; limits = s.limits; group = s.group }
 
 -- the tree that has at each node the station of its row
 abbrev pub tree_of : Numbered → List PolicyNode → List Program → Tree Node

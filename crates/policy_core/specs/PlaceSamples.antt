@@ -1,10 +1,12 @@
 -- An example of statements with four nodes, and their tree.
 use Rattle.std.specs.Prelude.{◌≡◌, refl, ℕ, Option, Some, None, List, [], ◌∷◌, codes}
 use Rattle.tree_defs.specs.Tree.{leaf as leaf_of, inner, none, more}
+use Rattle.rank_defs.specs.declared.flow_group.FlowGroup.TheVariants.{FiveTuple}
 use Rattle.rank_defs.specs.Builtins.{fifo}
 use Rattle.policy_text_defs.specs.declared.attribute.Attrs.{Attrs}
+use Rattle.policy_text_defs.specs.Settings.{no_queueing, only_packets}
 use Rattle.policy_text_defs.specs.Sense.{Entry, numbered, version, class, leaf, node}
-use Rattle.policy_defs.specs.Policy.{Node, no_marks}
+use Rattle.policy_defs.specs.Policy.{Node, no_marks, at_most}
 use Rattle.policy_rules.specs.Graph.{graph_of}
 use Rattle.policy_rules.specs.Resolved.{classes_in}
 use Rattle.tree_graph.specs.Descent.{two_below_a_root}
@@ -22,13 +24,13 @@ four_nodes = numbered 1 (
     version 2 ∷
     class (codes "web") nothing_set [] ∷
     class (codes "rest") nothing_set [] ∷
-    node (codes "upper") (codes "fifo") nothing_set (codes "deep" ∷ []) ∷
-    leaf (codes "side") (codes "fifo") nothing_set (Some 10) (codes "rest" ∷ []) ∷
-    node (codes "root") (codes "fifo") nothing_set (codes "upper" ∷ codes "side" ∷ []) ∷
-    leaf (codes "deep") (codes "fifo") nothing_set None (codes "web" ∷ []) ∷ [])
+    node (codes "upper") (codes "fifo") nothing_set no_queueing (codes "deep" ∷ []) ∷
+    leaf (codes "side") (codes "fifo") nothing_set (only_packets (Some 10)) (codes "rest" ∷ []) ∷
+    node (codes "root") (codes "fifo") nothing_set no_queueing (codes "upper" ∷ codes "side" ∷ []) ∷
+    leaf (codes "deep") (codes "fifo") nothing_set no_queueing (codes "web" ∷ []) ∷ [])
 
 abbrev pub served_in_turn : List ℕ → Option ℕ → Node
-served_in_turn n limit = record { name = n; using = codes "fifo"; program = fifo; marks = no_marks; limit = limit }
+served_in_turn n limit = record { name = n; using = codes "fifo"; program = fifo; marks = no_marks; limits = at_most limit; group = FiveTuple }
 
 pub graph_of-four_nodes : graph_of four_nodes ≡ two_below_a_root
 graph_of-four_nodes = refl

@@ -1,9 +1,10 @@
 -- NodeStates and nodes of worked policies.
-use Rattle.std.specs.Prelude.{◌≡◌, refl, ℕ, Some, None, List, [], ◌∷◌, codes}
+use Rattle.std.specs.Prelude.{◌≡◌, refl, ℕ, Some, List, [], ◌∷◌, codes}
 use Rattle.tree_defs.specs.Tree.{leaf}
+use Rattle.rank_defs.specs.declared.flow_group.FlowGroup.TheVariants.{FiveTuple, Source}
 use Rattle.rank_defs.specs.Programs.{Program}
 use Rattle.rank_defs.specs.Builtins.{fifo, shortest}
-use Rattle.policy_defs.specs.Policy.{Node, one_leaf}
+use Rattle.policy_defs.specs.Policy.{Node, no_limits, at_most, one_leaf}
 use Rattle.tree_graph.specs.Preorder.{Numbered, numbered, rows}
 use Rattle.policy_core.specs.declared.parts.Marks.{Marks}
 use Rattle.policy_core.specs.declared.parts.PolicyNode.{PolicyNode}
@@ -17,17 +18,20 @@ urgent = record { prio = 7; weight = 2; slack = 500 }
 
 -- a station without a limit: its name, the name of its transaction and the transaction's index
 abbrev pub station : List ℕ → List ℕ → ℕ → Marks → PolicyNode
-station name used program marks = record { name = name; using = used; program = program; marks = marks; limit = None }
+station name used program marks = record { name = name; using = used; program = program; marks = marks; limits = no_limits; group = FiveTuple }
 
 -- a node without a limit: its name, the name of its transaction and the transaction's program
 abbrev pub node : List ℕ → List ℕ → Program → Marks → Node
-node name used program m = record { name = name; using = used; program = program; marks = told m; limit = None }
+node name used program m = record { name = name; using = used; program = program; marks = told m; limits = no_limits; group = FiveTuple }
 
 pub node_of-the_second_transaction : node_of (fifo ∷ shortest ∷ []) (station (codes "left") (codes "shortest") 1 urgent) ≡ node (codes "left") (codes "shortest") shortest urgent
 node_of-the_second_transaction = refl
 
-pub node_of-a_limit : (node_of (fifo ∷ []) (record { name = codes "deep"; using = codes "fifo"; program = 0; marks = plain; limit = Some 10 })).limit ≡ Some 10
+pub node_of-a_limit : (node_of (fifo ∷ []) (record { name = codes "deep"; using = codes "fifo"; program = 0; marks = plain; limits = at_most (Some 10); group = Source })).limits ≡ at_most (Some 10)
 node_of-a_limit = refl
+
+pub node_of-a_group : (node_of (fifo ∷ []) (record { name = codes "deep"; using = codes "fifo"; program = 0; marks = plain; limits = no_limits; group = Source })).group ≡ Source
+node_of-a_group = refl
 
 abbrev lone_tree : Numbered
 lone_tree = numbered (rows 0 [] (leaf 0)) (leaf tt)

@@ -54,7 +54,7 @@ fn add_family(
 {
     match statement {
         Statement::Leaf(..) => graph.push(Vec::new(alloc))?,
-        Statement::Node(_, _, _, children) => {
+        Statement::Node(_, _, _, _, children) => {
             graph.push(numbers(alloc, nodes, children.as_slice())?)?
         }
         _ => {}

@@ -57,7 +57,7 @@ pub fn leaves(
                 );
                 node += 1;
             }
-            Statement::Node(_, _, _, _) => node += 1,
+            Statement::Node(_, _, _, _, _) => node += 1,
             _ => {}
         }
     }

@@ -6,15 +6,17 @@ ghost use Rattle.policy_rules.specs.Clauses.{is_known, is_transaction_known};
 ghost use Rattle.policy_rules.specs.Entries.{entries_of, AreRising};
 ghost use Rattle.policy_rules.specs.Graph.{nodes_in};
 ghost use Rattle.policy_rules.specs.Names.{declared, transaction_name};
-ghost use Rattle.policy_rules.specs.Resolved.{marks_of};
+ghost use Rattle.policy_rules.specs.Resolved.{marks_of, limits_of, group_of};
 ghost use Rattle.policy_rules.specs.Known.{known_programs, WhereDeclared};
 ghost use Rattle.policy_core.specs.Made.{nodes_told, IsPlaceOf, IsStationOf, AreMore};
 ghost use Rattle.policy_core.specs.Parts.{HavePrograms, told};
 
 use crate::parts::{Marks, PolicyNode};
 use list_core::{List, Name};
+use policy_defs::Limits;
 use policy_rules::{Names, program_place};
-use policy_text_defs::{Attrs, Statement};
+use policy_text_defs::{Attrs, Queueing, Statement};
+use rank_defs::FlowGroup;
 use std::alloc::{AllocError, Global};
 
 /// Returns the marks that attributes set. The defaults are priority 0, weight 1 and slack 0.
@@ -26,6 +28,24 @@ pub(crate) fn marks(attrs: &Attrs) -> Marks
         weight: attrs.weight.unwrap_or(1),
         slack: attrs.slack.unwrap_or(0),
     }
+}
+
+/// Returns the limits that a leaf or node sets.
+fn limits(queueing: Queueing) -> Limits
+    ensures { result ≡ limits_of queueing }
+{
+    Limits {
+        packets: queueing.packets,
+        bytes: queueing.bytes,
+        per_flow: queueing.per_flow,
+    }
+}
+
+/// Returns the fields by which a leaf or node groups packets into flows. The default is all five.
+fn group(queueing: Queueing) -> FlowGroup
+    ensures { result ≡ group_of queueing }
+{
+    queueing.by.unwrap_or(FlowGroup::FiveTuple)
 }
 
 /// Returns the index of the program that a name denotes.
@@ -43,17 +63,18 @@ fn station(
     name: &Name,
     used: &Name,
     attrs: &Attrs,
-    limit: Option<u32>,
+    queueing: Queueing,
 ) -> Result<PolicyNode, AllocError>
     ensures station { WhereDeclared transactions.now (λ es. is_transaction_known es used.now ≡ true
-        → IfOk result (IsStationOf es name.now used.now attrs.now limit)) }
+        → IfOk result (IsStationOf es name.now used.now attrs.now queueing)) }
 {
     Ok(PolicyNode {
         name: Name::new(alloc, name.as_str())?,
         using: Name::new(alloc, used.as_str())?,
         program: program(transactions, used.as_str()),
         marks: marks(attrs),
-        limit,
+        limits: limits(queueing),
+        group: group(queueing),
     })
 }
 
@@ -69,11 +90,11 @@ fn add_station(
         → HavePrograms stations.old (known_programs es) → OnOk result (AreMore es (sense_of statement.now) stations.old stations.new)) }
 {
     match statement {
-        Statement::Leaf(name, used, attrs, limit, _) => {
-            stations.push(station(alloc, transactions, name, used, attrs, *limit)?)
+        Statement::Leaf(name, used, attrs, queueing, _) => {
+            stations.push(station(alloc, transactions, name, used, attrs, *queueing)?)
         }
-        Statement::Node(name, used, attrs, _) => {
-            stations.push(station(alloc, transactions, name, used, attrs, None)?)
+        Statement::Node(name, used, attrs, queueing, _) => {
+            stations.push(station(alloc, transactions, name, used, attrs, *queueing)?)
         }
         _ => Ok(()),
     }

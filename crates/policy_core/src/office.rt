@@ -1,7 +1,8 @@
 //! The policy of an office, whose statements are in specs/Office.antt.
-ghost use Rattle.std.specs.Prelude.{◌≡◌, ◌∷◌, ◌++◌, [], None, map, IfOk, OnOk};
+ghost use Rattle.std.specs.Prelude.{◌≡◌, ◌∷◌, ◌++◌, [], map, IfOk, OnOk};
 ghost use Rattle.policy_text_defs.specs.Sense.{sense_of, class, leaf, node};
 ghost use Rattle.policy_text_defs.specs.Statements.{unset};
+ghost use Rattle.policy_text_defs.specs.Settings.{no_queueing};
 ghost use Rattle.policy_rules.specs.Accepted.{AreAccepted};
 ghost use Rattle.policy_rules.specs.Resolved.{IsResolved};
 ghost use Rattle.policy_rules.specs.declared.fault.PolicyFault.TheVariants.{NoMemory};
@@ -14,13 +15,20 @@ use policy_rules::PolicyFault;
 use policy_text::Lines;
 use policy_text_defs::Condition::{Dest, Field};
 use policy_text_defs::FieldName::{Dport, Dscp, Proto};
-use policy_text_defs::{Attrs, Condition, Statement};
+use policy_text_defs::{Attrs, Condition, Queueing, Statement};
 use std::alloc::{AllocError, Global};
 
 const UNSET: Attrs = Attrs {
     prio: None,
     weight: None,
     slack: None,
+};
+
+const NO_QUEUEING: Queueing = Queueing {
+    packets: None,
+    bytes: None,
+    per_flow: None,
+    by: None,
 };
 
 const TCP: Condition = Field(Proto, 6, 6);
@@ -63,13 +71,13 @@ fn add_leaf(
     weight: Option<u32>,
 ) -> Result<(), AllocError>
     ensures { OnOk result (map sense_of all.new ≡ map sense_of all.old ++ leaf name.now used.now
-        (of_weight weight) None (name.now ∷ []) ∷ []) }
+        (of_weight weight) no_queueing (name.now ∷ []) ∷ []) }
 {
     let classes = names(alloc, &[name])?;
     let name = Name::new(alloc, name)?;
     let used = Name::new(alloc, used)?;
     let attrs = Attrs { weight, ..UNSET };
-    all.push(Statement::Leaf(name, used, attrs, None, classes))
+    all.push(Statement::Leaf(name, used, attrs, NO_QUEUEING, classes))
 }
 
 fn add_node(
@@ -81,13 +89,13 @@ fn add_node(
     children: &[&str],
 ) -> Result<(), AllocError>
     ensures { OnOk result (map sense_of all.new ≡ map sense_of all.old
-        ++ node name.now used.now (of_prio prio) (map (λ n. n.now) children.now) ∷ []) }
+        ++ node name.now used.now (of_prio prio) no_queueing (map (λ n. n.now) children.now) ∷ []) }
 {
     let name = Name::new(alloc, name)?;
     let used = Name::new(alloc, used)?;
     let children = names(alloc, children)?;
     let attrs = Attrs { prio, ..UNSET };
-    all.push(Statement::Node(name, used, attrs, children))
+    all.push(Statement::Node(name, used, attrs, NO_QUEUEING, children))
 }
 
 fn add_classes(alloc: Global, all: &mut List<Statement>) -> Result<(), AllocError>

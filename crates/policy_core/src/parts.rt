@@ -1,6 +1,8 @@
 //! The parts of a policy.
 use list_core::{List, Name};
+use policy_defs::Limits;
 use policy_text_defs::Test;
+use rank_defs::FlowGroup;
 
 /// The values that steps can read of a node or a class: the priority, the weight, and the slack in
 /// nanoseconds.
@@ -12,14 +14,15 @@ pub struct Marks {
 }
 
 /// A node or a leaf: its name, the name of its transaction and its index among the checked ones,
-/// its marks, and its limit in packets if it is a leaf with a limit.
+/// its marks, its limits, and the fields by which it tells flows apart.
 #[derive(Drop)]
 pub struct PolicyNode {
     pub name: Name,
     pub using: Name,
     pub program: usize,
     pub marks: Marks,
-    pub limit: Option<u32>,
+    pub limits: Limits,
+    pub group: FlowGroup,
 }
 
 /// A class of packets: its marks, its conditions, and the preorder number of the leaf that queues its

@@ -15,8 +15,9 @@ ghost use Rattle.policy_rules.specs.Clauses.{most_classes};
 
 use crate::parts::{Class, Marks, PolicyNode};
 use list_core::List;
-use policy_defs::NodeNames;
+use policy_defs::{Limits, NodeNames};
 use range_core::Checked;
+use rank_defs::FlowGroup;
 use std::marker::Model;
 use tree_core::Topo;
 use tree_graph::Preorder;
@@ -168,13 +169,20 @@ impl Policy {
         station_of(&self.tree, self.stations.as_slice(), node).marks
     }
 
-    /// Returns the most packets that a leaf queues, or `None` for an inner node or a leaf without a
-    /// limit.
-    pub fn limit(&self, node: u32) -> Option<u32>
+    /// Returns the limits of a node or leaf.
+    pub fn limits(&self, node: u32) -> Limits
         requires there { node < nodes self.now.policy.tree }
-        ensures limit { HasAt self.now.policy.tree node (λ n. result ≡ n.limit) }
+        ensures limits { HasAt self.now.policy.tree node (λ n. result ≡ n.limits) }
     {
-        station_of(&self.tree, self.stations.as_slice(), node).limit
+        station_of(&self.tree, self.stations.as_slice(), node).limits
+    }
+
+    /// Returns the fields by which a node or leaf tells flows apart.
+    pub fn group(&self, node: u32) -> FlowGroup
+        requires there { node < nodes self.now.policy.tree }
+        ensures group { HasAt self.now.policy.tree node (λ n. result ≡ n.group) }
+    {
+        station_of(&self.tree, self.stations.as_slice(), node).group
     }
 
     /// Returns the name of a node's or leaf's transaction, as written.

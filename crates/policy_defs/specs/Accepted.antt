@@ -1,5 +1,5 @@
 -- The conditions that a policy must meet so that its queues can be run.
-use Rattle.std.specs.Prelude.{◌≡◌, ◌≤◌, ◌<◌, ◌^◌, Some, None, length}
+use Rattle.std.specs.Prelude.{◌≡◌, ◌≤◌, ◌<◌, ◌^◌, Some, length}
 use Rattle.std.specs.List.{AllByRecursion}
 use Rattle.text_core.specs.Tokens.{most_name}
 use Rattle.tree_defs.specs.Tree.{Tree, leaf, inner, Trees, none, more, Address, LeadsToLeaf, depth, count_of, most_levels}
@@ -19,16 +19,6 @@ pub record IsNodeReady (n : Node) : Type 0 where
   pub checked : IsChecked n.program
   pub marks : AreMarksInRange n.marks
   pub name : length n.name ≤ most_name
-
--- no inner node has a limit
-abbrev mutual
-  pub HasLimitsAtLeaves : Tree Node → Type 0
-  HasLimitsAtLeaves (leaf n) = Unit {0}
-  HasLimitsAtLeaves (inner n ts) = (n.limit ≡ None) × HaveLimitsAtLeaves ts
-
-  pub HaveLimitsAtLeaves : Trees Node → Type 0
-  HaveLimitsAtLeaves none = Unit {0}
-  HaveLimitsAtLeaves (more t ts) = HasLimitsAtLeaves t × HaveLimitsAtLeaves ts
 
 -- a class with marks in range and a leaf for its packets
 pub record IsClassReady (tree : Tree Node) (c : Class) : Type 0 where
@@ -53,4 +43,3 @@ pub record IsAccepted (policy : Policy) : Type 0 where
   pub some_class : 0 < length policy.classes
   pub levels : depth policy.tree ≤ most_levels
   pub children : HasFewChildren policy.tree
-  pub limits : HasLimitsAtLeaves policy.tree

@@ -1,4 +1,5 @@
 pub mod Policy
 pub mod Accepted
+pub mod Classic
 pub mod BuiltIn
 pub mod Numbers

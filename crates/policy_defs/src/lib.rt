@@ -2,6 +2,8 @@
 //! specs/Policy.antt.
 #![tactic(auto)]
 
+mod limits;
 mod names;
 
+pub use limits::Limits;
 pub use names::NodeNames;

@@ -13,8 +13,8 @@ behind-cons found (n, class c a []) es = refl
 behind-cons found (n, filtered c a []) es = refl
 behind-cons found (n, class c a (x ∷ cs)) es = refl
 behind-cons found (n, filtered c a (x ∷ cs)) es = refl
-behind-cons found (n, leaf l u a o ns) es = refl
-behind-cons found (n, node l u a ns) es = refl
+behind-cons found (n, leaf l u a q ns) es = refl
+behind-cons found (n, node l u a q ns) es = refl
 
 behind-push : (found : Bool) (es : List Entry) (e : Entry) → has_catch_all_behind found (es ++ e ∷ []) ≡ is_catch_all (has_catch_all_behind found es) e.1
 behind-push found [] e = behind-cons found e []
@@ -63,5 +63,5 @@ at_another found (Push n t) other filter = refl
 at_another found (Pop n t) other filter = refl
 at_another found (Class n a cs) other filter = absurd (other n a cs refl)
 at_another found (Filter n a ts) other filter = absurd (filter n a ts refl)
-at_another found (Leaf n u a l ns) other filter = refl
-at_another found (Node n u a ns) other filter = refl
+at_another found (Leaf n u a q ns) other filter = refl
+at_another found (Node n u a q ns) other filter = refl

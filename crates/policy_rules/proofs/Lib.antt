@@ -29,3 +29,4 @@ pub mod WrittenPrograms
 pub mod ShapedPrograms
 pub mod KnownPrograms
 pub mod NamedPrograms
+pub mod ClassicPolicies

@@ -105,7 +105,7 @@ class-one_leaf entries a none there = one_lister leaf_classes entries a (class-o
 
 -- a statement that lists a class declares a leaf
 pub lists-leaf : (s : Sense) (a : Name) → Contains (leaf_classes s) a → (n : Name) × ((node_name s ≡ Some n) × ListsClass n a s)
-lists-leaf (leaf n u m l ns) a lists = (n, (refl, (refl, lists)))
+lists-leaf (leaf n u m q ns) a lists = (n, (refl, (refl, lists)))
 lists-leaf (version v) a lists = absurd (omega (arith, lists.1))
 lists-leaf (transaction n) a lists = absurd (omega (arith, lists.1))
 lists-leaf (keep n s) a lists = absurd (omega (arith, lists.1))
@@ -114,7 +114,7 @@ lists-leaf (push n t) a lists = absurd (omega (arith, lists.1))
 lists-leaf (pop n t) a lists = absurd (omega (arith, lists.1))
 lists-leaf (class n m cs) a lists = absurd (omega (arith, lists.1))
 lists-leaf (filtered n m cs) a lists = absurd (omega (arith, lists.1))
-lists-leaf (node n u m ns) a lists = absurd (omega (arith, lists.1))
+lists-leaf (node n u m q ns) a lists = absurd (omega (arith, lists.1))
 
 -- ---- children
 -- if no node is an orphan, each declared node or leaf except the root is listed once

@@ -41,8 +41,8 @@ names_of_bodies ((n, push a t) ∷ es) = names_of_bodies es
 names_of_bodies ((n, pop a t) ∷ es) = names_of_bodies es
 names_of_bodies ((n, class a c cs) ∷ es) = names_of_bodies es
 names_of_bodies ((n, filtered a c cs) ∷ es) = names_of_bodies es
-names_of_bodies ((n, leaf a u c l ns) ∷ es) = names_of_bodies es
-names_of_bodies ((n, node a u c ns) ∷ es) = names_of_bodies es
+names_of_bodies ((n, leaf a u c q ns) ∷ es) = names_of_bodies es
+names_of_bodies ((n, node a u c q ns) ∷ es) = names_of_bodies es
 
 body_place : (es : List Entry) (name : Name) → position (bytes_eq name) (declared transaction_name es) ≡ position (λ b. bytes_eq name b.name) (bodies es)
 body_place es name = ap (position (bytes_eq name)) (names_of_bodies es) ∙ sym (position-map (λ (b : Body). b.name) (bytes_eq name) (bodies es))
@@ -81,8 +81,8 @@ few_push pre (push a t) beyond few = subst (λ (l : List Name). length l ≤ mos
 few_push pre (pop a t) beyond few = subst (λ (l : List Name). length l ≤ most_transactions) (sym (append-nil (declared transaction_name pre))) few
 few_push pre (class a c cs) beyond few = subst (λ (l : List Name). length l ≤ most_transactions) (sym (append-nil (declared transaction_name pre))) few
 few_push pre (filtered a c cs) beyond few = subst (λ (l : List Name). length l ≤ most_transactions) (sym (append-nil (declared transaction_name pre))) few
-few_push pre (leaf a u c l ns) beyond few = subst (λ (l : List Name). length l ≤ most_transactions) (sym (append-nil (declared transaction_name pre))) few
-few_push pre (node a u c ns) beyond few = subst (λ (l : List Name). length l ≤ most_transactions) (sym (append-nil (declared transaction_name pre))) few
+few_push pre (leaf a u c q ns) beyond few = subst (λ (l : List Name). length l ≤ most_transactions) (sym (append-nil (declared transaction_name pre))) few
+few_push pre (node a u c q ns) beyond few = subst (λ (l : List Name). length l ≤ most_transactions) (sym (append-nil (declared transaction_name pre))) few
 
 pub few_transactions : (es : List Entry) → AreRising es → AreFew es → length (declared transaction_name es) ≤ most_transactions
 few_transactions es rising few = declared-few transaction_name es rising most_transactions few_push few.1

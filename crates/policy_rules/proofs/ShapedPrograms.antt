@@ -21,8 +21,8 @@ keep_spans earlier ((n, push a t) ∷ es) sound = keep_spans _ es sound.1
 keep_spans earlier ((n, pop a t) ∷ es) sound = keep_spans _ es sound.1
 keep_spans earlier ((n, class a c cs) ∷ es) sound = keep_spans _ es sound.1
 keep_spans earlier ((n, filtered a c cs) ∷ es) sound = keep_spans _ es sound.1
-keep_spans earlier ((n, leaf a u c l ns) ∷ es) sound = keep_spans _ es sound.1
-keep_spans earlier ((n, node a u c ns) ∷ es) sound = keep_spans _ es sound.1
+keep_spans earlier ((n, leaf a u c q ns) ∷ es) sound = keep_spans _ es sound.1
+keep_spans earlier ((n, node a u c q ns) ∷ es) sound = keep_spans _ es sound.1
 
 each_spans : (earlier lines : List Entry) → AreSoundBehind earlier lines → AllByRecursion IsSpan (filter_map (λ e. each_span e.1) lines)
 each_spans earlier [] sound = tt
@@ -34,8 +34,8 @@ each_spans earlier ((n, push a t) ∷ es) sound = each_spans _ es sound.1
 each_spans earlier ((n, pop a t) ∷ es) sound = each_spans _ es sound.1
 each_spans earlier ((n, class a c cs) ∷ es) sound = each_spans _ es sound.1
 each_spans earlier ((n, filtered a c cs) ∷ es) sound = each_spans _ es sound.1
-each_spans earlier ((n, leaf a u c l ns) ∷ es) sound = each_spans _ es sound.1
-each_spans earlier ((n, node a u c ns) ∷ es) sound = each_spans _ es sound.1
+each_spans earlier ((n, leaf a u c q ns) ∷ es) sound = each_spans _ es sound.1
+each_spans earlier ((n, node a u c q ns) ∷ es) sound = each_spans _ es sound.1
 
 -- a span for each name
 pub as_many_keeps : (lines : List Entry) → length (declared keep_name lines) ≡ length (filter_map (λ e. keep_span e.1) lines)
@@ -48,8 +48,8 @@ as_many_keeps ((n, push a t) ∷ es) = as_many_keeps es
 as_many_keeps ((n, pop a t) ∷ es) = as_many_keeps es
 as_many_keeps ((n, class a c cs) ∷ es) = as_many_keeps es
 as_many_keeps ((n, filtered a c cs) ∷ es) = as_many_keeps es
-as_many_keeps ((n, leaf a u c l ns) ∷ es) = as_many_keeps es
-as_many_keeps ((n, node a u c ns) ∷ es) = as_many_keeps es
+as_many_keeps ((n, leaf a u c q ns) ∷ es) = as_many_keeps es
+as_many_keeps ((n, node a u c q ns) ∷ es) = as_many_keeps es
 
 pub as_many_eaches : (lines : List Entry) → length (declared each_name lines) ≡ length (filter_map (λ e. each_span e.1) lines)
 as_many_eaches [] = refl
@@ -61,8 +61,8 @@ as_many_eaches ((n, push a t) ∷ es) = as_many_eaches es
 as_many_eaches ((n, pop a t) ∷ es) = as_many_eaches es
 as_many_eaches ((n, class a c cs) ∷ es) = as_many_eaches es
 as_many_eaches ((n, filtered a c cs) ∷ es) = as_many_eaches es
-as_many_eaches ((n, leaf a u c l ns) ∷ es) = as_many_eaches es
-as_many_eaches ((n, node a u c ns) ∷ es) = as_many_eaches es
+as_many_eaches ((n, leaf a u c q ns) ∷ es) = as_many_eaches es
+as_many_eaches ((n, node a u c q ns) ∷ es) = as_many_eaches es
 
 -- ---- names
 
@@ -86,8 +86,8 @@ either_kind a ((n, push b t) ∷ es) = either_kind a es
 either_kind a ((n, pop b t) ∷ es) = either_kind a es
 either_kind a ((n, class b c cs) ∷ es) = either_kind a es
 either_kind a ((n, filtered b c cs) ∷ es) = either_kind a es
-either_kind a ((n, leaf b u c l ns) ∷ es) = either_kind a es
-either_kind a ((n, node b u c ns) ∷ es) = either_kind a es
+either_kind a ((n, leaf b u c q ns) ∷ es) = either_kind a es
+either_kind a ((n, node b u c q ns) ∷ es) = either_kind a es
 
 or_more : (a b : Bool) → a ≡ true → (a || b) ≡ true
 or_more true b is = refl
@@ -198,8 +198,8 @@ module _ (all : List Entry) where
   pushes_shaped earlier ((n, transaction a) ∷ es) is body sound = absurd (true≢false (sym sound.0.body))
   pushes_shaped earlier ((n, class a c cs) ∷ es) is body sound = absurd (true≢false (sym sound.0.body))
   pushes_shaped earlier ((n, filtered a c cs) ∷ es) is body sound = absurd (true≢false (sym sound.0.body))
-  pushes_shaped earlier ((n, leaf a u c l ns) ∷ es) is body sound = absurd (true≢false (sym sound.0.body))
-  pushes_shaped earlier ((n, node a u c ns) ∷ es) is body sound = absurd (true≢false (sym sound.0.body))
+  pushes_shaped earlier ((n, leaf a u c q ns) ∷ es) is body sound = absurd (true≢false (sym sound.0.body))
+  pushes_shaped earlier ((n, node a u c q ns) ∷ es) is body sound = absurd (true≢false (sym sound.0.body))
 
   with_rank : (r b : Bool) → b ≡ true → (r || b) ≡ true
   with_rank true b is = refl
@@ -220,8 +220,8 @@ module _ (all : List Entry) where
   pops_shaped earlier ((n, transaction a) ∷ es) is body sound = absurd (true≢false (sym sound.0.body))
   pops_shaped earlier ((n, class a c cs) ∷ es) is body sound = absurd (true≢false (sym sound.0.body))
   pops_shaped earlier ((n, filtered a c cs) ∷ es) is body sound = absurd (true≢false (sym sound.0.body))
-  pops_shaped earlier ((n, leaf a u c l ns) ∷ es) is body sound = absurd (true≢false (sym sound.0.body))
-  pops_shaped earlier ((n, node a u c ns) ∷ es) is body sound = absurd (true≢false (sym sound.0.body))
+  pops_shaped earlier ((n, leaf a u c q ns) ∷ es) is body sound = absurd (true≢false (sym sound.0.body))
+  pops_shaped earlier ((n, node a u c q ns) ∷ es) is body sound = absurd (true≢false (sym sound.0.body))
 
   pops_leave_rank : (earlier lines : List Entry) → AreSoundBehind earlier lines → AllByRecursion (λ (x : Assignment). x.aim ≢ aim.Rank) (filter_map (pop_in (declared keep_name all) (declared each_name all)) lines)
   pops_leave_rank earlier [] sound = tt
@@ -233,8 +233,8 @@ module _ (all : List Entry) where
   pops_leave_rank earlier ((n, push a t) ∷ es) sound = pops_leave_rank _ es sound.1
   pops_leave_rank earlier ((n, class a c cs) ∷ es) sound = pops_leave_rank _ es sound.1
   pops_leave_rank earlier ((n, filtered a c cs) ∷ es) sound = pops_leave_rank _ es sound.1
-  pops_leave_rank earlier ((n, leaf a u c l ns) ∷ es) sound = pops_leave_rank _ es sound.1
-  pops_leave_rank earlier ((n, node a u c ns) ∷ es) sound = pops_leave_rank _ es sound.1
+  pops_leave_rank earlier ((n, leaf a u c q ns) ∷ es) sound = pops_leave_rank _ es sound.1
+  pops_leave_rank earlier ((n, node a u c q ns) ∷ es) sound = pops_leave_rank _ es sound.1
 
 pub shaped : (lines : List Entry) → IsSoundBody lines → IsShaped (program_in lines)
 shaped lines sound = record {

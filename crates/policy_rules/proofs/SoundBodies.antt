@@ -16,8 +16,8 @@ body_line (n, push a t) is = refl
 body_line (n, pop a t) is = refl
 body_line (n, class a b cs) is = refl
 body_line (n, filtered a b cs) is = refl
-body_line (n, leaf a u b l ns) is = refl
-body_line (n, node a u b ns) is = refl
+body_line (n, leaf a u b q ns) is = refl
+body_line (n, node a u b q ns) is = refl
 
 body_lines : (lines : List Entry) → AreBody lines → list_any is_transaction lines ≡ false
 body_lines [] all = refl
@@ -74,8 +74,8 @@ no_keep a ((n, push b t) ∷ es) none = no_keep a es none
 no_keep a ((n, pop b t) ∷ es) none = no_keep a es none
 no_keep a ((n, class b c cs) ∷ es) none = no_keep a es none
 no_keep a ((n, filtered b c cs) ∷ es) none = no_keep a es none
-no_keep a ((n, leaf b u c l ns) ∷ es) none = no_keep a es none
-no_keep a ((n, node b u c ns) ∷ es) none = no_keep a es none
+no_keep a ((n, leaf b u c q ns) ∷ es) none = no_keep a es none
+no_keep a ((n, node b u c q ns) ∷ es) none = no_keep a es none
 
 pub no_each : (a : Name) (lines : List Entry) → has (declared variable_name lines) a ≡ false → has (declared each_name lines) a ≡ false
 no_each a [] none = refl
@@ -87,8 +87,8 @@ no_each a ((n, push b t) ∷ es) none = no_each a es none
 no_each a ((n, pop b t) ∷ es) none = no_each a es none
 no_each a ((n, class b c cs) ∷ es) none = no_each a es none
 no_each a ((n, filtered b c cs) ∷ es) none = no_each a es none
-no_each a ((n, leaf b u c l ns) ∷ es) none = no_each a es none
-no_each a ((n, node b u c ns) ∷ es) none = no_each a es none
+no_each a ((n, leaf b u c q ns) ∷ es) none = no_each a es none
+no_each a ((n, node b u c q ns) ∷ es) none = no_each a es none
 
 added : (names : List Name) (o : Option Name) → ((a : Name) → o ≡ Some a → has names a ≡ false) → with_names names o ≡ names ++ cons_option o []
 added names None new = sym (append-nil names)
@@ -105,8 +105,8 @@ keep_new earlier (n, push b t) all new a is = absurd cc
 keep_new earlier (n, pop b t) all new a is = absurd cc
 keep_new earlier (n, class b c cs) all new a is = absurd cc
 keep_new earlier (n, filtered b c cs) all new a is = absurd cc
-keep_new earlier (n, leaf b u c l ns) all new a is = absurd cc
-keep_new earlier (n, node b u c ns) all new a is = absurd cc
+keep_new earlier (n, leaf b u c q ns) all new a is = absurd cc
+keep_new earlier (n, node b u c q ns) all new a is = absurd cc
 
 each_new : (earlier : List Entry) (e : Entry) → AreBody earlier → is_declared earlier e.1 ≡ false → (a : Name) → each_name e.1 ≡ Some a → has (declared each_name earlier) a ≡ false
 each_new earlier (n, each b s) all new a is =
@@ -119,8 +119,8 @@ each_new earlier (n, push b t) all new a is = absurd cc
 each_new earlier (n, pop b t) all new a is = absurd cc
 each_new earlier (n, class b c cs) all new a is = absurd cc
 each_new earlier (n, filtered b c cs) all new a is = absurd cc
-each_new earlier (n, leaf b u c l ns) all new a is = absurd cc
-each_new earlier (n, node b u c ns) all new a is = absurd cc
+each_new earlier (n, leaf b u c q ns) all new a is = absurd cc
+each_new earlier (n, node b u c q ns) all new a is = absurd cc
 
 -- one more line of a body
 pub keeps_more : (es : List Entry) (i : ℕ) (d : Entry) → i < length es → IsSoundBody es → with_names (declared keep_name (take i es)) (keep_name (get_or es i d).1) ≡ declared keep_name (take (i + 1) es)
@@ -148,8 +148,8 @@ few_keeps-variables ((n, push b t) ∷ es) = few_keeps-variables es
 few_keeps-variables ((n, pop b t) ∷ es) = few_keeps-variables es
 few_keeps-variables ((n, class b c cs) ∷ es) = few_keeps-variables es
 few_keeps-variables ((n, filtered b c cs) ∷ es) = few_keeps-variables es
-few_keeps-variables ((n, leaf b u c l ns) ∷ es) = few_keeps-variables es
-few_keeps-variables ((n, node b u c ns) ∷ es) = few_keeps-variables es
+few_keeps-variables ((n, leaf b u c q ns) ∷ es) = few_keeps-variables es
+few_keeps-variables ((n, node b u c q ns) ∷ es) = few_keeps-variables es
 
 pub few_eaches-variables : (lines : List Entry) → length (declared each_name lines) ≤ length (declared variable_name lines)
 few_eaches-variables [] = omega arith
@@ -161,8 +161,8 @@ few_eaches-variables ((n, push b t) ∷ es) = few_eaches-variables es
 few_eaches-variables ((n, pop b t) ∷ es) = few_eaches-variables es
 few_eaches-variables ((n, class b c cs) ∷ es) = few_eaches-variables es
 few_eaches-variables ((n, filtered b c cs) ∷ es) = few_eaches-variables es
-few_eaches-variables ((n, leaf b u c l ns) ∷ es) = few_eaches-variables es
-few_eaches-variables ((n, node b u c ns) ∷ es) = few_eaches-variables es
+few_eaches-variables ((n, leaf b u c q ns) ∷ es) = few_eaches-variables es
+few_eaches-variables ((n, node b u c q ns) ∷ es) = few_eaches-variables es
 
 short : (n m : ℕ) → n ≤ m → n ≢ m → n + 1 ≤ m
 short n m le other = omega (arith, le, other)
@@ -182,8 +182,8 @@ room earlier (n, version v) all few is beyond = absurd (true≢false (sym is))
 room earlier (n, transaction b) all few is beyond = absurd (true≢false (sym is))
 room earlier (n, class b c cs) all few is beyond = absurd (true≢false (sym is))
 room earlier (n, filtered b c cs) all few is beyond = absurd (true≢false (sym is))
-room earlier (n, leaf b u c l ns) all few is beyond = absurd (true≢false (sym is))
-room earlier (n, node b u c ns) all few is beyond = absurd (true≢false (sym is))
+room earlier (n, leaf b u c q ns) all few is beyond = absurd (true≢false (sym is))
+room earlier (n, node b u c q ns) all few is beyond = absurd (true≢false (sym is))
 
 few_behind : (earlier es : List Entry) → AreBody earlier → length (declared variable_name earlier) ≤ most_variables → AreSoundBehind earlier es → length (declared variable_name (earlier ++ es)) ≤ most_variables
 few_behind earlier [] all few sound = subst (λ (l : List Entry). length (declared variable_name l) ≤ most_variables) (sym (append-nil earlier)) few

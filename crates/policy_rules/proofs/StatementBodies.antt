@@ -18,8 +18,8 @@ module _ (a b : List Entry) (same : open_body a ≡ open_body b) where
   declared_alike (transaction n) is = absurd (true≢false (sym is))
   declared_alike (class n c cs) is = absurd (true≢false (sym is))
   declared_alike (filtered n c cs) is = absurd (true≢false (sym is))
-  declared_alike (leaf n u c l ns) is = absurd (true≢false (sym is))
-  declared_alike (node n u c ns) is = absurd (true≢false (sym is))
+  declared_alike (leaf n u c q ns) is = absurd (true≢false (sym is))
+  declared_alike (node n u c q ns) is = absurd (true≢false (sym is))
 
   known_alike : (es : List Entry) (s : Sense) → is_body s ≡ true → is_known [] b s ≡ is_known es a s
   known_alike es (keep n s) is = refl
@@ -30,8 +30,8 @@ module _ (a b : List Entry) (same : open_body a ≡ open_body b) where
   known_alike es (transaction n) is = absurd (true≢false (sym is))
   known_alike es (class n c cs) is = absurd (true≢false (sym is))
   known_alike es (filtered n c cs) is = absurd (true≢false (sym is))
-  known_alike es (leaf n u c l ns) is = absurd (true≢false (sym is))
-  known_alike es (node n u c ns) is = absurd (true≢false (sym is))
+  known_alike es (leaf n u c q ns) is = absurd (true≢false (sym is))
+  known_alike es (node n u c q ns) is = absurd (true≢false (sym is))
 
   beyond_alike : (s : Sense) → is_body s ≡ true → is_one_too_many b s ≡ is_one_too_many a s
   beyond_alike (keep n s) is = rw same refl
@@ -42,8 +42,8 @@ module _ (a b : List Entry) (same : open_body a ≡ open_body b) where
   beyond_alike (transaction n) is = absurd (true≢false (sym is))
   beyond_alike (class n c cs) is = absurd (true≢false (sym is))
   beyond_alike (filtered n c cs) is = absurd (true≢false (sym is))
-  beyond_alike (leaf n u c l ns) is = absurd (true≢false (sym is))
-  beyond_alike (node n u c ns) is = absurd (true≢false (sym is))
+  beyond_alike (leaf n u c q ns) is = absurd (true≢false (sym is))
+  beyond_alike (node n u c q ns) is = absurd (true≢false (sym is))
 
 -- ---- a line between some lines and others
 
@@ -98,8 +98,8 @@ module _ (es : List Entry) (rising : AreRising es) (few : AreFew es) (valid : Al
   sound_opened pre rest (n, pop a t) is = tt
   sound_opened pre rest (n, class a c cs) is = tt
   sound_opened pre rest (n, filtered a c cs) is = tt
-  sound_opened pre rest (n, leaf a u c l ns) is = tt
-  sound_opened pre rest (n, node a u c ns) is = tt
+  sound_opened pre rest (n, leaf a u c q ns) is = tt
+  sound_opened pre rest (n, node a u c q ns) is = tt
 
   -- the body that a line begins
   pub sound_begun : (i : ℕ) (e : Entry) → i < length es → get_or es i e ≡ e → AllByRecursion (λ b. IsSoundBody b.lines) (opened e.1 (drop (i + 1) es))

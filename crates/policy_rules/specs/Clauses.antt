@@ -60,8 +60,8 @@ is_declared earlier (push n t) = false
 is_declared earlier (pop n t) = false
 is_declared earlier (class n a cs) = has (declared class_name earlier) n
 is_declared earlier (filtered n a ts) = has (declared class_name earlier) n
-is_declared earlier (leaf n u a l ns) = has (declared node_name earlier) n
-is_declared earlier (node n u a ns) = has (declared node_name earlier) n
+is_declared earlier (leaf n u a q ns) = has (declared node_name earlier) n
+is_declared earlier (node n u a q ns) = has (declared node_name earlier) n
 
 abbrev pub IsRepeated : List Entry → Entry → Type 0
 IsRepeated entries e = IsTrue (is_declared (before e.0 entries) e.1)
@@ -86,8 +86,8 @@ is_known entries earlier (push n t) =
     (bytes_eq n (codes "rank") || has (declared variable_name (open_body earlier)) n) && are_operands_known (declared variable_name (open_body earlier)) t
 is_known entries earlier (pop n t) =
     has (declared variable_name (open_body earlier)) n && are_operands_known (declared variable_name (open_body earlier)) t
-is_known entries earlier (leaf n u a l ns) = is_transaction_known entries u && list_all (has (declared class_name entries)) ns
-is_known entries earlier (node n u a ns) = is_transaction_known entries u && list_all (has (declared node_name entries)) ns
+is_known entries earlier (leaf n u a q ns) = is_transaction_known entries u && list_all (has (declared class_name entries)) ns
+is_known entries earlier (node n u a q ns) = is_transaction_known entries u && list_all (has (declared node_name entries)) ns
 is_known entries earlier s = true
 
 abbrev pub IsUnknown : List Entry → Entry → Type 0
@@ -120,8 +120,8 @@ is_one_too_many earlier (push n t) = assignments_in (open_body earlier) == most_
 is_one_too_many earlier (pop n t) = assignments_in (open_body earlier) == most_assignments
 is_one_too_many earlier (class n a cs) = length (declared class_name earlier) == most_classes
 is_one_too_many earlier (filtered n a ts) = length (declared class_name earlier) == most_classes
-is_one_too_many earlier (leaf n u a l ns) = length (declared node_name earlier) == most_nodes
-is_one_too_many earlier (node n u a ns) = length (declared node_name earlier) == most_nodes
+is_one_too_many earlier (leaf n u a q ns) = length (declared node_name earlier) == most_nodes
+is_one_too_many earlier (node n u a q ns) = length (declared node_name earlier) == most_nodes
 
 abbrev pub IsOneTooMany : List Entry → Entry → Type 0
 IsOneTooMany entries e = IsTrue (is_one_too_many (before e.0 entries) e.1)
@@ -167,7 +167,7 @@ version_of ((n, version v) ∷ es) = v
 version_of es = 0
 
 abbrev pub has_limit : Sense → Bool
-has_limit (leaf n u a (Some l) ns) = true
+has_limit (leaf n u a q ns) = is_some q.packets
 has_limit s = false
 
 abbrev pub NeedsVersion2 : List Entry → Entry → Type 0

@@ -30,8 +30,8 @@ class_name (filtered n a ts) = Some n
 class_name s = None
 
 abbrev pub node_name : Sense → Option Name
-node_name (leaf n u a l ns) = Some n
-node_name (node n u a ns) = Some n
+node_name (leaf n u a q ns) = Some n
+node_name (node n u a q ns) = Some n
 node_name s = None
 
 -- a variable of the node, and one of each child or flow
@@ -54,11 +54,11 @@ declared space entries = filter_map (λ e. space e.1) entries
 
 -- ---- the names that statements list
 abbrev pub children : Sense → List Name
-children (node n u a ns) = ns
+children (node n u a q ns) = ns
 children s = []
 
 abbrev pub leaf_classes : Sense → List Name
-leaf_classes (leaf n u a l ns) = ns
+leaf_classes (leaf n u a q ns) = ns
 leaf_classes s = []
 
 -- all names that statements list, as often as they list them

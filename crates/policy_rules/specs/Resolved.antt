@@ -1,9 +1,13 @@
 -- The policy that accepted statements give.
-use Rattle.std.specs.Prelude.{◌≡◌, ℕ, Option, Some, None, unwrap_or, List, [], ◌∷◌, map, Any, Contains, filter_map}
+use Rattle.std.specs.Prelude.{◌≡◌, Option, Some, None, unwrap_or, List, [], ◌∷◌, map, Any, Contains, filter_map}
 use Rattle.tree_defs.specs.Tree.{Tree, leaf as leaf_of, inner, Trees, none, more, Address, LeadsToLeaf, root_of}
+use Rattle.rank_defs.specs.declared.flow_group.FlowGroup.{FlowGroup}
+use Rattle.rank_defs.specs.declared.flow_group.FlowGroup.TheVariants.{FiveTuple}
 use Rattle.policy_text_defs.specs.declared.attribute.Attrs.{Attrs}
+use Rattle.policy_text_defs.specs.declared.queueing.Queueing.{Queueing}
 use Rattle.policy_text_defs.specs.declared.test.Test.{Test}
 use Rattle.policy_text_defs.specs.Sense.{Sense, Entry, class, filter as filtered, leaf, node}
+use Rattle.policy_defs.specs.declared.limits.Limits.{Limits}
 use Rattle.policy_defs.specs.Policy.{Policy, Node, Class, Marks, no_marks, node_at}
 use Rattle.policy_rules.specs.Names.{Name}
 use Rattle.policy_rules.specs.Clauses.{root, version_of}
@@ -20,22 +24,31 @@ pub record Resolved : Type 0 where
 abbrev pub marks_of : Attrs → Marks
 marks_of a = record { prio = unwrap_or a.prio no_marks.prio; weight = unwrap_or a.weight no_marks.weight; slack = unwrap_or a.slack no_marks.slack }
 
--- a node has this name, this transaction and its program, the marks of these attributes, and this
--- limit or none
-pub record IsNodeOf (entries : List Entry) (n : Node) (name used : Name) (a : Attrs) (limit : Option ℕ) : Type 0 where
+-- the limits that a leaf or node sets
+abbrev pub limits_of : Queueing → Limits
+limits_of q = record { packets = q.packets; bytes = q.bytes; per_flow = q.per_flow }
+
+-- the fields by which it groups packets into flows: all five by default
+abbrev pub group_of : Queueing → FlowGroup
+group_of q = unwrap_or q.by FiveTuple
+
+-- a node has this name, this transaction and its program, the marks of these attributes, and these
+-- limits and flows
+pub record IsNodeOf (entries : List Entry) (n : Node) (name used : Name) (a : Attrs) (q : Queueing) : Type 0 where
   pub name_is : n.name ≡ name
   pub using_is : n.using ≡ used
   pub program_is : program_named entries used ≡ Some n.program
   pub marks_are : n.marks ≡ marks_of a
-  pub limit_is : n.limit ≡ limit
+  pub limits_are : n.limits ≡ limits_of q
+  pub group_is : n.group ≡ group_of q
 
 -- the statement declares this leaf, or this inner node whose children have these names
 abbrev pub IsLeafOf : List Entry → Node → Sense → Type 0
-IsLeafOf entries n (leaf name used a l ns) = IsNodeOf entries n name used a l
+IsLeafOf entries n (leaf name used a q ns) = IsNodeOf entries n name used a q
 IsLeafOf entries n s = ⊥
 
 abbrev pub IsInnerOf : List Entry → Node → List Name → Sense → Type 0
-IsInnerOf entries n names (node name used a ns) = IsNodeOf entries n name used a None × (names ≡ ns)
+IsInnerOf entries n names (node name used a q ns) = IsNodeOf entries n name used a q × (names ≡ ns)
 IsInnerOf entries n names s = ⊥
 
 abbrev pub names_of : Trees Node → List Name
@@ -54,7 +67,7 @@ abbrev mutual
 
 -- a statement of this leaf lists the class
 abbrev pub ListsClass : Name → Name → Sense → Type 0
-ListsClass leaf_name class_name (leaf name used a l ns) = (name ≡ leaf_name) × Contains ns class_name
+ListsClass leaf_name class_name (leaf name used a q ns) = (name ≡ leaf_name) × Contains ns class_name
 ListsClass leaf_name class_name s = ⊥
 
 -- the leaf at the address lists the class

@@ -3,13 +3,19 @@ use Rattle.std.specs.Prelude.{◌≡◌, refl, ℕ, true, false, Some, None, Lis
 use Rattle.rank_defs.specs.declared.expression.Op.TheVariants.{Add}
 use Rattle.rank_defs.specs.declared.expression.Var.TheVariants as var
 use Rattle.rank_defs.specs.declared.transaction.Aim.TheVariants as aim
+use Rattle.rank_defs.specs.declared.flow_group.FlowGroup.TheVariants.{FiveTuple, Source}
 use Rattle.rank_defs.specs.Formulas as formula
+use Rattle.rank_defs.specs.Builtins.{fifo}
 use Rattle.policy_text_defs.specs.declared.attribute.Attrs.{Attrs}
+use Rattle.policy_text_defs.specs.declared.queueing.Queueing.{Queueing}
 use Rattle.policy_text_defs.specs.Phrase.{number, word, two}
+use Rattle.policy_text_defs.specs.Settings.{no_queueing, only_packets}
 use Rattle.policy_text_defs.specs.Sense.{Sense, Entry, entry, numbered, version, transaction, keep, each, push, pop, class, leaf, node}
+use Rattle.policy_defs.specs.Policy.{no_marks, at_most}
 use Rattle.policy_rules.specs.Names.{before, listed, leaf_classes}
 use Rattle.policy_rules.specs.Clauses.{is_placed, is_declared, is_known, is_one_too_many, is_not_listed_once, has_root, has_catch_all, version_of, NeedsVersion2}
 use Rattle.policy_rules.specs.Programs.{programs}
+use Rattle.policy_rules.specs.Graph.{node_in}
 
 abbrev pub nothing_set : Attrs
 nothing_set = record { prio = None; weight = None; slack = None }
@@ -17,7 +23,7 @@ nothing_set = record { prio = None; weight = None; slack = None }
 -- one leaf, one class, and a transaction that counts
 abbrev pub counting : List Entry
 counting = numbered 1 (
-    version 1 ∷ class (codes "all") nothing_set [] ∷ leaf (codes "root") (codes "count") nothing_set None (codes "all" ∷ []) ∷
+    version 1 ∷ class (codes "all") nothing_set [] ∷ leaf (codes "root") (codes "count") nothing_set no_queueing (codes "all" ∷ []) ∷
     transaction (codes "count") ∷ keep (codes "n") (record { low = 0; high = 9; first = 0 }) ∷
     push (codes "n") (two Add (word (codes "n")) (number 1)) ∷ push (codes "rank") (word (codes "n")) ∷ [])
 
@@ -69,10 +75,10 @@ abbrev a_class : Sense
 a_class = class (codes "c") nothing_set []
 
 abbrev a_leaf : Sense
-a_leaf = leaf (codes "l") (codes "fifo") nothing_set None []
+a_leaf = leaf (codes "l") (codes "fifo") nothing_set no_queueing []
 
 abbrev a_node : Sense
-a_node = node (codes "n") (codes "fifo") nothing_set []
+a_node = node (codes "n") (codes "fifo") nothing_set no_queueing []
 
 -- N statements of one form
 abbrev so_many : ℕ → Sense → List Entry
@@ -118,16 +124,44 @@ has_catch_all-counting = refl
 
 -- one leaf with a limit of ten packets
 abbrev pub limited : ℕ → List Entry
-limited v = numbered 1 (version v ∷ class (codes "all") nothing_set [] ∷ leaf (codes "root") (codes "fifo") nothing_set (Some 10) (codes "all" ∷ []) ∷ [])
+limited v = numbered 1 (version v ∷ class (codes "all") nothing_set [] ∷ leaf (codes "root") (codes "fifo") nothing_set (only_packets (Some 10)) (codes "all" ∷ []) ∷ [])
 
 pub version_of-limited : version_of (limited 2) ≡ 2
 version_of-limited = refl
 
-pub NeedsVersion2-a_limit_in_version_1 : NeedsVersion2 (limited 1) (entry 3 (leaf (codes "root") (codes "fifo") nothing_set (Some 10) (codes "all" ∷ [])))
+pub NeedsVersion2-a_limit_in_version_1 : NeedsVersion2 (limited 1) (entry 3 (leaf (codes "root") (codes "fifo") nothing_set (only_packets (Some 10)) (codes "all" ∷ [])))
 NeedsVersion2-a_limit_in_version_1 = refl
 
-pub NeedsVersion2-a_limit_in_version_2 : ¬ NeedsVersion2 (limited 2) (entry 3 (leaf (codes "root") (codes "fifo") nothing_set (Some 10) (codes "all" ∷ [])))
+pub NeedsVersion2-a_limit_in_version_2 : ¬ NeedsVersion2 (limited 2) (entry 3 (leaf (codes "root") (codes "fifo") nothing_set (only_packets (Some 10)) (codes "all" ∷ [])))
 NeedsVersion2-a_limit_in_version_2 h = cc
 
-pub NeedsVersion2-a_leaf_without_a_limit : ¬ NeedsVersion2 counting (entry 3 (leaf (codes "root") (codes "count") nothing_set None (codes "all" ∷ [])))
+pub NeedsVersion2-a_limit_in_version_3 : ¬ NeedsVersion2 (limited 3) (entry 3 (leaf (codes "root") (codes "fifo") nothing_set (only_packets (Some 10)) (codes "all" ∷ [])))
+NeedsVersion2-a_limit_in_version_3 h = cc
+
+pub NeedsVersion2-a_leaf_without_a_limit : ¬ NeedsVersion2 counting (entry 3 (leaf (codes "root") (codes "count") nothing_set no_queueing (codes "all" ∷ [])))
 NeedsVersion2-a_leaf_without_a_limit h = cc
+
+-- a leaf with each setting
+abbrev each_setting : Queueing
+each_setting = record { packets = Some 100; bytes = Some 65536; per_flow = Some 4; by = Some Source }
+
+pub node_in-a_leaf_with_each_setting : node_in [] (leaf (codes "l") (codes "fifo") (record { prio = Some 2; weight = Some 3; slack = Some 5 }) each_setting (codes "all" ∷ [])) ≡ Some (record {
+  name = codes "l";
+  using = codes "fifo";
+  program = fifo;
+  marks = record { prio = 2; weight = 3; slack = 5 };
+  limits = record { packets = Some 100; bytes = Some 65536; per_flow = Some 4 };
+  group = Source;
+})
+node_in-a_leaf_with_each_setting = refl
+
+-- an inner node with a limit in packets
+pub node_in-an_inner_node_with_a_limit : node_in [] (node (codes "n") (codes "fifo") nothing_set (only_packets (Some 10)) (codes "l" ∷ [])) ≡ Some (record {
+  name = codes "n";
+  using = codes "fifo";
+  program = fifo;
+  marks = no_marks;
+  limits = at_most (Some 10);
+  group = FiveTuple;
+})
+node_in-an_inner_node_with_a_limit = refl

@@ -14,6 +14,7 @@ use Rattle.rank_defs.specs.Checks.{Clashes, IsWide, MayDivideByZero, SomeAt, Are
 use Rattle.policy_text_defs.specs.declared.condition.Condition.TheVariants.{Field}
 use Rattle.policy_text_defs.specs.declared.condition.FieldName.TheVariants.{Dscp}
 use Rattle.policy_text_defs.specs.Phrase.{Phrase, number, word, two}
+use Rattle.policy_text_defs.specs.Settings.{no_queueing, only_packets}
 use Rattle.policy_text_defs.specs.Sense.{Sense, Entry, entry, numbered, version, transaction, keep, push, class, leaf, node}
 use Rattle.policy_rules.specs.Names.{Name, node_name, before, listed, children, leaf_classes}
 use Rattle.policy_rules.specs.Clauses.{IsLeastLine, NoLine, is_placed, is_declared, is_known, is_one_too_many, is_orphan, is_not_listed_once, has_root, has_catch_all, root, IsRepeated, IsUnknown, IsOneTooMany, IsOrphan, NeedsVersion2}
@@ -77,10 +78,10 @@ abbrev pub some_packets : Sense
 some_packets = class (codes "all") nothing_set (Field Dscp 46 46 ∷ [])
 
 abbrev pub leaf_of : Name → List Name → Sense
-leaf_of n classes = leaf n (codes "fifo") nothing_set None classes
+leaf_of n classes = leaf n (codes "fifo") nothing_set no_queueing classes
 
 abbrev pub node_of : Name → List Name → Sense
-node_of n names = node n (codes "fifo") nothing_set names
+node_of n names = node n (codes "fifo") nothing_set no_queueing names
 
 -- N variables with different names
 abbrev variables : ℕ → ℕ → List Sense → List Sense
@@ -258,7 +259,7 @@ stray_before_no_catch_all = ((are_shallow stray_and_no_catch_all (are_few stray_
 
 -- ---- 13 before 14: no class for all packets, and a limit in version 1
 abbrev no_catch_all_and_ahead : List Entry
-no_catch_all_and_ahead = numbered 1 (version 1 ∷ some_packets ∷ leaf root (codes "fifo") nothing_set (Some 10) (codes "all" ∷ []) ∷ [])
+no_catch_all_and_ahead = numbered 1 (version 1 ∷ some_packets ∷ leaf root (codes "fifo") nothing_set (only_packets (Some 10)) (codes "all" ∷ []) ∷ [])
 
-pub no_catch_all_before_ahead : IsFault no_catch_all_and_ahead NoCatchAll × NeedsVersion2 no_catch_all_and_ahead (entry 3 (leaf root (codes "fifo") nothing_set (Some 10) (codes "all" ∷ [])))
+pub no_catch_all_before_ahead : IsFault no_catch_all_and_ahead NoCatchAll × NeedsVersion2 no_catch_all_and_ahead (entry 3 (leaf root (codes "fifo") nothing_set (only_packets (Some 10)) (codes "all" ∷ [])))
 no_catch_all_before_ahead = (((are_shallow no_catch_all_and_ahead (are_few no_catch_all_and_ahead refl refl refl refl) tt refl refl refl, none_passes (stray no_catch_all_and_ahead) no_catch_all_and_ahead refl), refl), refl)

@@ -77,7 +77,7 @@ fn is_known(spaces: &Spaces, variables: &Names, statement: &Statement) -> bool
             is_transaction_known(spaces, used.as_str())
                 && are_among(classes.as_slice(), &spaces.classes)
         }
-        Statement::Node(_, used, _, children) => {
+        Statement::Node(_, used, _, _, children) => {
             is_transaction_known(spaces, used.as_str())
                 && are_among(children.as_slice(), &spaces.nodes)
         }

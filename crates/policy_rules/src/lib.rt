@@ -30,7 +30,7 @@ pub use builtins::BUILTINS;
 pub use checked::checked_transactions;
 pub use clauses::declarations;
 pub use fault::PolicyFault;
-pub use laws::statements_have_one_fault;
+pub use laws::{classic_statements_give_classic_policies, statements_have_one_fault};
 pub use leaves::check_leaves;
 pub use limits::{check_limits, version};
 pub use names::Names;

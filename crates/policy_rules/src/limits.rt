@@ -22,7 +22,10 @@ pub fn version(lines: &[(u32, Statement)]) -> u32
 fn has_limit(statement: &Statement) -> bool
     ensures { result ≡ has_limit (sense_of statement.now) }
 {
-    matches!(statement, Statement::Leaf(_, _, _, Some(_), _))
+    match statement {
+        Statement::Leaf(_, _, _, queueing, _) => queueing.packets.is_some(),
+        _ => false,
+    }
 }
 
 /// Returns the first line with a limit, if the policy is of version 1.

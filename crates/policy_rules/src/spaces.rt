@@ -50,7 +50,7 @@ impl<'a> Spaces<'a> {
             Statement::Class(name, _, _) | Statement::Filter(name, _, _) => {
                 self.classes.contains(name.as_str())
             }
-            Statement::Leaf(name, _, _, _, _) | Statement::Node(name, _, _, _) => {
+            Statement::Leaf(name, _, _, _, _) | Statement::Node(name, _, _, _, _) => {
                 self.nodes.contains(name.as_str())
             }
         }
@@ -69,7 +69,7 @@ impl<'a> Spaces<'a> {
                 self.classes.add(name.as_str())?;
                 Ok(())
             }
-            Statement::Leaf(name, _, _, _, _) | Statement::Node(name, _, _, _) => {
+            Statement::Leaf(name, _, _, _, _) | Statement::Node(name, _, _, _, _) => {
                 self.nodes.add(name.as_str())?;
                 Ok(())
             }

@@ -29,7 +29,7 @@ pub fn tally_children<'a>(
 {
     let mut tally = Tally::new(alloc);
     for (_, statement) in lines {
-        if let Statement::Node(_, _, _, children) = statement {
+        if let Statement::Node(_, _, _, _, children) = statement {
             tally_names(&mut tally, children.as_slice())?;
         }
     }

@@ -4,6 +4,7 @@
 
 mod address;
 mod alternatives;
+mod attributes;
 mod conditions;
 mod cursor;
 mod fault;
@@ -13,6 +14,7 @@ mod names;
 mod parser;
 mod part;
 mod printing;
+mod settings;
 mod statements;
 mod text;
 

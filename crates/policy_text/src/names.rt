@@ -50,7 +50,7 @@ pub fn has_names(edition: Edition, statement: &Statement) -> bool
         Statement::Push(name, term) | Statement::Pop(name, term) => {
             has(edition, name) && has_words(edition, term)
         }
-        Statement::Leaf(name, used, _, _, names) | Statement::Node(name, used, _, names) => {
+        Statement::Leaf(name, used, _, _, names) | Statement::Node(name, used, _, _, names) => {
             has(edition, name) && has(edition, used) && has_each(edition, names.as_slice())
         }
     }

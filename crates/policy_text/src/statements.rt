@@ -1,11 +1,11 @@
 //! Reads a statement.
-ghost use Rattle.std.specs.Prelude.{◌≡◌, ◌≤◌, List, Some, IfOk};
+ghost use Rattle.std.specs.Prelude.{◌≡◌, List, Some, IfOk};
 ghost use Rattle.policy_text_defs.specs.declared.keyword.Keyword.TheVariants as keyword;
-ghost use Rattle.policy_text_defs.specs.Ranges.{attribute_most};
 ghost use Rattle.policy_text_defs.specs.Sense.{Sense, sense_of};
+ghost use Rattle.policy_text_defs.specs.Settings.{only_packets};
 ghost use Rattle.policy_text_defs.specs.StatementReading as forms;
-ghost use Rattle.policy_text_defs.specs.Statements.{IsFormAt, with_attribute};
-ghost use Rattle.policy_text.specs.Reads.{Reads, Makes, same};
+ghost use Rattle.policy_text_defs.specs.Statements.{IsFormAt};
+ghost use Rattle.policy_text.specs.Reads.{Reads, same};
 ghost use Rattle.policy_text.specs.States.{States};
 ghost use Rattle.text_core.specs.Glyphs.{glyphs_of};
 
@@ -15,66 +15,25 @@ use crate::cursor::Cursor;
 use crate::names::has_names;
 use crate::parser::expression;
 use crate::part::{MOST_OPEN, Part};
+use crate::settings::LIMIT_LEAST;
 use list_core::{List, Name};
-use policy_text_defs::{Attribute, Attrs, Edition, Keyword, Mode, Statement};
+use policy_text_defs::{Bound, Edition, Keyword, Mode, Queueing, Statement};
 use rank_defs::Span;
 use std::alloc::Global;
 use text_core::{Item, Mark, Refusal};
 
 const FIRST_VERSION: u64 = 1;
 
-/// The least limit of a leaf, in packets.
-const LIMIT_LEAST: u64 = 1;
-
-/// The greatest limit of a leaf, in packets.
-const LIMIT_MOST: u64 = 4_194_304;
-
-const UNSET: Attrs = Attrs {
-    prio: None,
-    weight: None,
-    slack: None,
-};
-
-fn is_unset(attribute: Attribute, attrs: &Attrs) -> bool
-    ensures { result ≡ forms.is_unset attribute attrs.now }
+/// Returns the limits of a leaf whose limit in packets, if it has one, is all that is given.
+fn only_packets(limit: Option<u32>) -> Queueing
+    ensures { result ≡ only_packets limit }
 {
-    match attribute {
-        Attribute::Prio => attrs.prio.is_none(),
-        Attribute::Weight => attrs.weight.is_none(),
-        Attribute::Slack => attrs.slack.is_none(),
+    Queueing {
+        packets: limit,
+        bytes: None,
+        per_flow: None,
+        by: None,
     }
-}
-
-/// Returns the attributes with this one set to a number in its range.
-fn with(attribute: Attribute, number: u64, attrs: Attrs) -> Attrs
-    requires { number ≤ attribute_most attribute }
-    ensures { result ≡ with_attribute attribute number attrs }
-{
-    match attribute {
-        Attribute::Prio => Attrs {
-            prio: Some(number as u32),
-            ..attrs
-        },
-        Attribute::Weight => Attrs {
-            weight: Some(number as u32),
-            ..attrs
-        },
-        Attribute::Slack => Attrs {
-            slack: Some(number),
-            ..attrs
-        },
-    }
-}
-
-/// Sets an attribute that isn't set yet, to a number in its range; otherwise the line is malformed.
-#[tactic(auto, unfolding(policy_text_defs::specs::StatementReading::set_to))]
-fn set(attribute: Attribute, number: u64, attrs: Attrs) -> Result<Attrs, Refusal>
-    ensures { Makes same (forms.set_to attribute attrs number) result }
-{
-    if !is_unset(attribute, &attrs) || number < attribute.least() || number > attribute.most() {
-        return Err(Refusal::NoForm);
-    }
-    Ok(with(attribute, number, attrs))
 }
 
 impl<'a> Cursor<'a> {
@@ -94,19 +53,6 @@ impl<'a> Cursor<'a> {
         Ok(Span { low, high, first })
     }
 
-    /// Reads attributes in any order, each at most once.
-    #[tactic(auto, using(policy_text_defs::proofs::RepeatLoops::repeats_start, policy_text_defs::proofs::RepeatLoops::repeats_over))]
-    fn attributes(&mut self) -> Result<Attrs, Refusal>
-        ensures { Reads same forms.attributes result self.old.rest.now self.new.rest.now }
-    {
-        let mut attrs = UNSET;
-        while let Some(attribute) = self.attribute() {
-            let number = self.number()?;
-            attrs = set(attribute, number, attrs)?;
-        }
-        Ok(attrs)
-    }
-
     /// Reads the number after `limit`, or returns `None` if no `limit` follows.
     #[tactic(auto, unfolding(policy_text_defs::specs::StatementReading::limit, policy_text_defs::specs::StatementReading::limit_by))]
     fn limit(&mut self) -> Result<Option<u32>, Refusal>
@@ -116,7 +62,7 @@ impl<'a> Cursor<'a> {
             return Ok(None);
         }
         let limit = self.number()?;
-        if limit < LIMIT_LEAST || limit > LIMIT_MOST {
+        if limit < LIMIT_LEAST || limit > Bound::Packets.most() {
             return Err(Refusal::NoForm);
         }
         Ok(Some(limit as u32))
@@ -237,7 +183,34 @@ fn leaf(alloc: Global, cursor: &mut Cursor<'_>) -> Result<Statement, Refusal>
     cursor.literal("classes")?;
     let classes = names(alloc, cursor)?;
     let used = Name::new(alloc, used)?;
-    Ok(Statement::Leaf(Name::new(alloc, name)?, used, attrs, limit, classes))
+    let name = Name::new(alloc, name)?;
+    Ok(Statement::Leaf(name, used, attrs, only_packets(limit), classes))
+}
+
+#[tactic(auto, unfolding(policy_text_defs::specs::StatementReading::leaf_settings_rest))]
+fn leaf_with_settings(alloc: Global, cursor: &mut Cursor<'_>) -> Result<Statement, Refusal>
+    ensures { Reads sense_of forms.leaf_settings_rest result cursor.old.rest.now
+        cursor.new.rest.now }
+{
+    let name = cursor.name()?;
+    cursor.literal("using")?;
+    let used = cursor.name()?;
+    let given = cursor.settings()?;
+    cursor.literal("classes")?;
+    let classes = names(alloc, cursor)?;
+    let used = Name::new(alloc, used)?;
+    let name = Name::new(alloc, name)?;
+    Ok(Statement::Leaf(name, used, given.attrs, given.queueing, classes))
+}
+
+/// Reads a leaf of the edition in which the line is read.
+fn leaf_by(alloc: Global, cursor: &mut Cursor<'_>, mode: Mode) -> Result<Statement, Refusal>
+    ensures { Reads sense_of (forms.leaf_by mode) result cursor.old.rest.now cursor.new.rest.now }
+{
+    match mode {
+        Mode::Opening(_) | Mode::Within(Edition::Classic) => leaf(alloc, cursor),
+        Mode::Within(Edition::Third) => leaf_with_settings(alloc, cursor),
+    }
 }
 
 #[tactic(auto, unfolding(policy_text_defs::specs::StatementReading::node_rest))]
@@ -251,7 +224,34 @@ fn node(alloc: Global, cursor: &mut Cursor<'_>) -> Result<Statement, Refusal>
     cursor.literal("children")?;
     let children = names(alloc, cursor)?;
     let used = Name::new(alloc, used)?;
-    Ok(Statement::Node(Name::new(alloc, name)?, used, attrs, children))
+    let name = Name::new(alloc, name)?;
+    Ok(Statement::Node(name, used, attrs, only_packets(None), children))
+}
+
+#[tactic(auto, unfolding(policy_text_defs::specs::StatementReading::node_settings_rest))]
+fn node_with_settings(alloc: Global, cursor: &mut Cursor<'_>) -> Result<Statement, Refusal>
+    ensures { Reads sense_of forms.node_settings_rest result cursor.old.rest.now
+        cursor.new.rest.now }
+{
+    let name = cursor.name()?;
+    cursor.literal("using")?;
+    let used = cursor.name()?;
+    let given = cursor.settings()?;
+    cursor.literal("children")?;
+    let children = names(alloc, cursor)?;
+    let used = Name::new(alloc, used)?;
+    let name = Name::new(alloc, name)?;
+    Ok(Statement::Node(name, used, given.attrs, given.queueing, children))
+}
+
+/// Reads a node of the edition in which the line is read.
+fn node_by(alloc: Global, cursor: &mut Cursor<'_>, mode: Mode) -> Result<Statement, Refusal>
+    ensures { Reads sense_of (forms.node_by mode) result cursor.old.rest.now cursor.new.rest.now }
+{
+    match mode {
+        Mode::Opening(_) | Mode::Within(Edition::Classic) => node(alloc, cursor),
+        Mode::Within(Edition::Third) => node_with_settings(alloc, cursor),
+    }
 }
 
 /// Reads a statement whose names may be those of either edition.
@@ -267,8 +267,8 @@ fn form(alloc: Global, cursor: &mut Cursor<'_>, mode: Mode) -> Result<Statement,
         Some(Keyword::Push) => push(alloc, cursor),
         Some(Keyword::Pop) => pop(alloc, cursor),
         Some(Keyword::Class) => class_by(alloc, cursor, mode),
-        Some(Keyword::Leaf) => leaf(alloc, cursor),
-        Some(Keyword::Node) => node(alloc, cursor),
+        Some(Keyword::Leaf) => leaf_by(alloc, cursor, mode),
+        Some(Keyword::Node) => node_by(alloc, cursor, mode),
         None => Err(Refusal::NoForm),
     }
 }

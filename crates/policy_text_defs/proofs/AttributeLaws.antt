@@ -13,7 +13,7 @@ attribute_of-word attribute.Prio = refl
 attribute_of-word attribute.Weight = refl
 attribute_of-word attribute.Slack = refl
 
-attribute_is : (w : List ℕ) (k : Attribute) → attribute_of w ≡ Some k → w ≡ attribute_word k
+pub attribute_is : (w : List ℕ) (k : Attribute) → attribute_of w ≡ Some k → w ≡ attribute_word k
 attribute_is w k e =
     let P : Attribute → Type 0 = λ k. w ≡ attribute_word k in
     in_table P w (codes "prio") attribute.Prio k _ (λ s. s)
@@ -29,7 +29,7 @@ unset_case : (found : Option ℕ) → pick found true (λ _. false) ≡ true →
 unset_case None e = refl
 unset_case (Some n) e = absurd cc
 
-set_reads : (k : Attribute) (n : ℕ) (a : Attrs) (gs : List Glyph) → MaySet k n a → set_to k a n gs ≡ Some (with_attribute k n a, gs)
+pub set_reads : (k : Attribute) (n : ℕ) (a : Attrs) (gs : List Glyph) → MaySet k n a → set_to k a n gs ≡ Some (with_attribute k n a, gs)
 unfolding set_to
 set_reads k n a gs may = rw (may.unset, le-leb (attribute_least k) n may.above, le-leb n (attribute_most k) may.below) refl
 
@@ -45,14 +45,14 @@ attributes_read a b ts rest (suc k) (set t n us _ _ may on) ends enough =
     ∙ attributes_read (with_attribute t n a) b us rest k on ends (omega arith)
 
 -- one attribute is set
-record IsSet (a : Attrs) (ts : List Glyph) (b : Attrs) : Type 0 where
-  key : Attribute
-  value : ℕ
-  tokens : ts ≡ text (attribute_word key) ∷ figure value ∷ []
-  may : MaySet key value a
-  same : with_attribute key value a ≡ b
+pub record IsSet (a : Attrs) (ts : List Glyph) (b : Attrs) : Type 0 where
+  pub key : Attribute
+  pub value : ℕ
+  pub tokens : ts ≡ text (attribute_word key) ∷ figure value ∷ []
+  pub may : MaySet key value a
+  pub same : with_attribute key value a ≡ b
 
-attribute_was : (k : Attribute) (a b : Attrs) (gs hs is : List Glyph) → ahead attribute_at gs ≡ Some (k, hs) → set_next k a hs ≡ Some (b, is) → Leads IsSet a gs b is
+pub attribute_was : (k : Attribute) (a b : Attrs) (gs hs is : List Glyph) → ahead attribute_at gs ≡ Some (k, hs) → set_next k a hs ≡ Some (b, is) → Leads IsSet a gs b is
 attribute_was k a b gs hs is found e =
     let stand = stands attribute_at gs hs k found in
     let first = steps _ _ _ _ e in

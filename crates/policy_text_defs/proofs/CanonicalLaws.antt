@@ -85,8 +85,8 @@ unshaped (push n a) = refl
 unshaped (pop n a) = refl
 unshaped (class n a cs) = refl
 unshaped (filter n a cs) = refl
-unshaped (leaf n u a l ns) = refl
-unshaped (node n u a ns) = refl
+unshaped (leaf n u a q ns) = refl
+unshaped (node n u a q ns) = refl
 
 statement_carried : (e : Edition) (s : Sense) → IsValidIn e s → Carries e (statement_text s) s
 statement_carried e s is = record {

@@ -16,8 +16,8 @@ classic_chosen (push n a) is = refl
 classic_chosen (pop n a) is = refl
 classic_chosen (class n a cs) is = refl
 classic_chosen (filter n a cs) is = refl
-classic_chosen (leaf n u a l ns) is = refl
-classic_chosen (node n u a ns) is = refl
+classic_chosen (leaf n u a q ns) is = refl
+classic_chosen (node n u a q ns) is = refl
 
 -- the first statement is read in the edition that it chooses
 pub opening_chosen : (latest : Edition) (line : List ℕ) (s : Sense) → CarriesAt (Opening latest) line s → edition_at (Opening latest) s ≡ chosen s
@@ -73,8 +73,8 @@ third_version line (push n a) is c valid = absurd cc
 third_version line (pop n a) is c valid = absurd cc
 third_version line (class n a cs) is c valid = absurd cc
 third_version line (filter n a cs) is c valid = absurd cc
-third_version line (leaf n u a l ns) is c valid = absurd cc
-third_version line (node n u a ns) is c valid = absurd cc
+third_version line (leaf n u a q ns) is c valid = absurd cc
+third_version line (node n u a q ns) is c valid = absurd cc
 
 none_carried : (line : List ℕ) (s : Sense) (e : Edition) → chosen s ≡ e → (CarriesAt (Opening Third) line (version 3) → ⊥) → (CarriesAt (Opening Classic) line s → ⊥) → CarriesAt (Opening Third) line s → ⊥
 none_carried line s Classic is third classic c = classic (record {

@@ -22,6 +22,7 @@ pub mod StatementPieces
 pub mod StatementTokens
 pub mod StepLaws
 pub mod Segments
+pub mod SettingLaws
 pub mod SeparatedLaws
 pub mod TermForms
 pub mod TermPieces

@@ -1,5 +1,6 @@
 -- The limit of a leaf: the reader accepts exactly its form.
 use Rattle.policy_text_defs.proofs.Prelude.{List, ℕ, [], refl, ◌≡◌, ◌∷◌, Some, ◌++◌, subst, None, codes, ◌∙◌, Option, ap, leb, leb-true, le-leb, ◌&&◌, Glyph, text, figure, limit_least, limit_most, ahead, pick, pure, Outcome, ◌>>=◌, a_number, attribute_at, word_ahead, IsLimit, Limit, unlimited}
+use Rattle.policy_text_defs.specs.declared.queueing.Bound.TheVariants as bound
 use Rattle.policy_text_defs.specs.Statements.{limited}
 use Rattle.policy_text_defs.specs.StatementReading.{limit_by, limit}
 use Rattle.policy_text_defs.proofs.StepLaws.{With, steps, same_value, same_rest}
@@ -16,7 +17,7 @@ limit_case l gs left (Some t) is e =
     let first = steps (a_number t.1) limit_by l left e in
     let w = limit_by_was first.value l first.left left first.next in
     let both = both_true (leb limit_least first.value) (leb first.value limit_most) w.is in
-    let may : IsLimit first.value = record { above = leb-true limit_least first.value both.0; below = leb-true first.value limit_most both.1 } in
+    let may : IsLimit bound.Packets first.value = record { above = leb-true limit_least first.value both.0; below = leb-true first.value limit_most both.1 } in
     let front : List Glyph = text (codes "limit") ∷ figure first.value ∷ [] in
     let number : t.1 ≡ figure first.value ∷ left = numbered t.1 first.left first.value first.read ∙ ap (λ l. figure first.value ∷ l) w.rest in
     record { front = front; split = word_follows (codes "limit") gs t.1 t.0 is ∙ ap (λ l. text (codes "limit") ∷ l) number; is = subst (Limit front) w.same (limited first.value may) }

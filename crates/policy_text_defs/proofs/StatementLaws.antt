@@ -3,7 +3,7 @@ use Rattle.policy_text_defs.proofs.Prelude.{List, ℕ, [], refl, ◌≡◌, ◌�
 use Rattle.text_core.specs.declared.mark.Mark.TheVariants as m
 use Rattle.policy_text_defs.specs.declared.keyword.Keyword.{Keyword}
 use Rattle.policy_text_defs.specs.declared.keyword.Keyword.TheVariants as keyword
-use Rattle.policy_text_defs.specs.StatementReading.{version_by, transaction_rest, keep_rest, each_rest, push_rest, pop_rest, class_rest, filter_rest, class_by, leaf_rest, node_rest, a_form, named_at, a_statement}
+use Rattle.policy_text_defs.specs.StatementReading.{version_by, transaction_rest, keep_rest, each_rest, push_rest, pop_rest, class_rest, filter_rest, class_by, leaf_rest, node_rest, leaf_settings_rest, node_settings_rest, leaf_by, node_by, settings, a_form, named_at, a_statement}
 use Rattle.policy_text_defs.proofs.StepLaws.{With, steps, same_value, same_rest, marked, worded, in_table}
 use Rattle.policy_text_defs.proofs.TokenLaws.{numbered, a_word_was, kept, Kept, both_true, named_reads, name_was, target_reads, target_was, span_reads, span_was}
 use Rattle.policy_text_defs.proofs.ExpressionLaws.{Spells-read, read-Spells}
@@ -13,6 +13,12 @@ use Rattle.policy_text_defs.specs.Tests.{Alternatives, unconditional, alternativ
 use Rattle.policy_text_defs.proofs.GuardLaws.{read_guard, guard_was}
 use Rattle.policy_text_defs.proofs.TestLaws.{test_guard_was, read_test_guard}
 use Rattle.policy_text_defs.proofs.LimitLaws.{limit_was, read_limit, limit_ends}
+use Rattle.policy_text_defs.proofs.SettingLaws.{settings_were, read_settings, list_ends}
+use Rattle.std.proofs.Math.Bool.{or-true}
+use Rattle.policy_text_defs.specs.declared.queueing.Queueing.{Queueing}
+use Rattle.policy_text_defs.specs.declared.setting.Settings.{Settings}
+use Rattle.policy_text_defs.specs.Settings.{no_queueing, only_packets, has_only_packets, has_nothing}
+use Rattle.policy_text_defs.specs.Statements.{AreSettings, leaf_settings_form, node_settings_form}
 
 -- how a statement begins
 abbrev keyword_word : Keyword → List ℕ
@@ -152,21 +158,25 @@ class_by_sound (Opening Third) gs s e = class_sound (chosen s) gs s (λ n a cs s
 class_by_sound (Within Classic) gs s e = class_sound Classic gs s (λ n a cs same. refl) e
 class_by_sound (Within Third) gs s e = filter_sound Third refl gs s e
 
--- a leaf or node after its keyword, given the form between its attributes and its list
-module _ (ed : Edition) {L : Type 0} (w list : List ℕ) (further : Reader L) (Is : List Glyph → L → Type 0) (further_was : (l : L) (gs left : List Glyph) → further gs ≡ Some (l, left) → With Is gs l left) (made : List ℕ → List ℕ → Attrs → L → List (List ℕ) → Sense)
-    (form : (n u : List ℕ) (ts ls : List Glyph) (a : Attrs) (l : L) (ns : List (List ℕ)) → IsName n → IsName u → Attributes ts a → Is ls l → AreNames ns → IsForm ed (text w ∷ text n ∷ text (codes "using") ∷ text u ∷ ts ++ (ls ++ text list ∷ map text ns)) (made n u a l ns)) where
+-- the same in the edition of the statement
+formed_in : (ed : Sense → Edition) (w : List ℕ) (ts gs : List Glyph) (r s : Sense) → IsForm (ed r) (text w ∷ ts) r → gs ≡ ts → r ≡ s → IsForm (ed s) (text w ∷ gs) s
+formed_in ed w ts gs r s is split same = let P : List Glyph → Type 0 = λ l. IsForm (ed s) (text w ∷ l) s in subst P (sym split) (subst (λ (t : Sense). IsForm (ed t) (text w ∷ ts) t) same is)
+
+-- a leaf or node after its keyword, given the forms of the two parts before its list
+module _ (ed : Sense → Edition) {A L : Type 0} (w list : List ℕ) (first : Reader A) (First : List Glyph → A → Type 0) (first_was : (a : A) (gs left : List Glyph) → first gs ≡ Some (a, left) → With First gs a left) (further : Reader L) (Is : List Glyph → L → Type 0) (further_was : (l : L) (gs left : List Glyph) → further gs ≡ Some (l, left) → With Is gs l left) (made : List ℕ → List ℕ → A → L → List (List ℕ) → Sense)
+    (form : (n u : List ℕ) (ts ls : List Glyph) (a : A) (l : L) (ns : List (List ℕ)) → IsName n → IsName u → First ts a → Is ls l → AreNames ns → IsForm (ed (made n u a l ns)) (text w ∷ text n ∷ text (codes "using") ∷ text u ∷ ts ++ (ls ++ text list ∷ map text ns)) (made n u a l ns)) where
   abbrev vertex_rest : Reader Sense
   vertex_rest = do
     n ← name
     literal (codes "using")
     u ← name
-    a ← attributes
+    a ← first
     l ← further
     literal list
     ns ← names
     pure (made n u a l ns)
 
-  vertex_sound : (gs : List Glyph) (s : Sense) → vertex_rest gs ≡ Some (s, []) → IsForm ed (text w ∷ gs) s
+  vertex_sound : (gs : List Glyph) (s : Sense) → vertex_rest gs ≡ Some (s, []) → IsForm (ed s) (text w ∷ gs) s
   vertex_sound gs s e =
       let a = steps _ _ _ _ e in
       let b = steps _ _ _ _ a.next in
@@ -177,36 +187,66 @@ module _ (ed : Edition) {L : Type 0} (w list : List ℕ) (further : Reader L) (I
       let h = steps _ _ _ _ f.next in
       let n = name_was a.value gs a.left a.read in
       let u = name_was c.value b.left c.left c.read in
-      let k = attributes_were d.value c.left d.left d.read in
+      let k = first_was d.value c.left d.left d.read in
       let o = further_was v.value d.left v.left v.read in
       let ns = names_were h.value f.left h.left h.read in
       let r : Sense = made a.value c.value d.value v.value h.value in
       let listed : f.left ≡ map text h.value = ns.split ∙ ap (λ l. map text h.value ++ l) (same_rest r s h.left [] h.next) ∙ append-nil (map text h.value) in
       let lists : v.left ≡ text list ∷ map text h.value = worded list v.left f.left f.value f.read ∙ ap (λ l. text list ∷ l) listed in
       let behind : d.left ≡ o.front ++ text list ∷ map text h.value = o.split ∙ ap (λ l. o.front ++ l) lists in
-      let attrs : c.left ≡ k.front ++ (o.front ++ text list ∷ map text h.value) = k.split ∙ ap (λ l. k.front ++ l) behind in
-      let using : a.left ≡ text (codes "using") ∷ text c.value ∷ k.front ++ (o.front ++ text list ∷ map text h.value) = worded (codes "using") a.left b.left b.value b.read ∙ ap (λ l. text (codes "using") ∷ l) (u.split ∙ ap (λ l. text c.value ∷ l) attrs) in
-      formed ed w (text a.value ∷ text (codes "using") ∷ text c.value ∷ k.front ++ (o.front ++ text list ∷ map text h.value)) gs r s (form a.value c.value k.front o.front d.value v.value h.value n.is u.is k.is o.is ns.are) (n.split ∙ ap (λ l. text a.value ∷ l) using) (same_value r s h.left [] h.next)
+      let parts : c.left ≡ k.front ++ (o.front ++ text list ∷ map text h.value) = k.split ∙ ap (λ l. k.front ++ l) behind in
+      let using : a.left ≡ text (codes "using") ∷ text c.value ∷ k.front ++ (o.front ++ text list ∷ map text h.value) = worded (codes "using") a.left b.left b.value b.read ∙ ap (λ l. text (codes "using") ∷ l) (u.split ∙ ap (λ l. text c.value ∷ l) parts) in
+      formed_in ed w (text a.value ∷ text (codes "using") ∷ text c.value ∷ k.front ++ (o.front ++ text list ∷ map text h.value)) gs r s (form a.value c.value k.front o.front d.value v.value h.value n.is u.is k.is o.is ns.are) (n.split ∙ ap (λ l. text a.value ∷ l) using) (same_value r s h.left [] h.next)
 
-leaf_sound : (ed : Edition) (gs : List Glyph) (s : Sense) → leaf_rest gs ≡ Some (s, []) → IsForm ed (text (codes "leaf") ∷ gs) s
+leaf_sound : (ed : Sense → Edition) → ((n u : List ℕ) (a : Attrs) (l : Option ℕ) (ns : List (List ℕ)) → has_conditions (ed (leaf n u a (only_packets l) ns)) ≡ true) → (gs : List Glyph) (s : Sense) → leaf_rest gs ≡ Some (s, []) → IsForm (ed s) (text (codes "leaf") ∷ gs) s
 unfolding leaf_rest
-leaf_sound ed gs s e = vertex_sound ed (codes "leaf") (codes "classes") limit Limit limit_was leaf leaf_form gs s e
+leaf_sound ed may gs s e = vertex_sound ed (codes "leaf") (codes "classes") attributes Attributes attributes_were limit Limit limit_was (λ n u a l ns. leaf n u a (only_packets l) ns) (λ n u ts ls a l ns. leaf_form (may n u a l ns) n u ts ls a l ns) gs s e
 
--- nothing more follows the attributes
+-- nothing more follows the attributes or settings
 abbrev NoMore : List Glyph → Unit {0} → Type 0
 NoMore ls l = ls ≡ []
 
 no_more_was : (l : Unit {0}) (gs left : List Glyph) → pure tt gs ≡ Some (l, left) → With NoMore gs l left
 no_more_was l gs left e = record { front = []; split = same_rest tt l gs left e; is = refl }
 
-node_plain : (ed : Edition) (n u : List ℕ) (ts ls : List Glyph) (a : Attrs) (l : Unit {0}) (ns : List (List ℕ)) → IsName n → IsName u → Attributes ts a → NoMore ls l → AreNames ns → IsForm ed (text (codes "node") ∷ text n ∷ text (codes "using") ∷ text u ∷ ts ++ (ls ++ text (codes "children") ∷ map text ns)) (node n u a ns)
-node_plain ed n u ts ls a l ns name used attributes none are =
-    let P : List Glyph → Type 0 = λ ls. IsForm ed (text (codes "node") ∷ text n ∷ text (codes "using") ∷ text u ∷ ts ++ (ls ++ text (codes "children") ∷ map text ns)) (node n u a ns) in
-    subst P (sym none) (node_form n u ts a ns name used attributes are)
+node_plain : (e : Edition) → has_conditions e ≡ true → (n u : List ℕ) (ts ls : List Glyph) (a : Attrs) (l : Unit {0}) (ns : List (List ℕ)) → IsName n → IsName u → Attributes ts a → NoMore ls l → AreNames ns → IsForm e (text (codes "node") ∷ text n ∷ text (codes "using") ∷ text u ∷ ts ++ (ls ++ text (codes "children") ∷ map text ns)) (node n u a no_queueing ns)
+node_plain e may n u ts ls a l ns is using attrs none are =
+    let P : List Glyph → Type 0 = λ ls. IsForm e (text (codes "node") ∷ text n ∷ text (codes "using") ∷ text u ∷ ts ++ (ls ++ text (codes "children") ∷ map text ns)) (node n u a no_queueing ns) in
+    subst P (sym none) (node_form may n u ts a ns is using attrs are)
 
-node_sound : (ed : Edition) (gs : List Glyph) (s : Sense) → node_rest gs ≡ Some (s, []) → IsForm ed (text (codes "node") ∷ gs) s
+node_sound : (ed : Sense → Edition) → ((n u : List ℕ) (a : Attrs) (ns : List (List ℕ)) → has_conditions (ed (node n u a no_queueing ns)) ≡ true) → (gs : List Glyph) (s : Sense) → node_rest gs ≡ Some (s, []) → IsForm (ed s) (text (codes "node") ∷ gs) s
 unfolding node_rest
-node_sound ed gs s e = vertex_sound ed (codes "node") (codes "children") (pure tt) NoMore no_more_was (λ n u a l ns. node n u a ns) (node_plain ed) gs s e
+node_sound ed may gs s e = vertex_sound ed (codes "node") (codes "children") attributes Attributes attributes_were (pure tt) NoMore no_more_was (λ n u a l ns. node n u a no_queueing ns) (λ n u ts ls a l ns. node_plain (ed (node n u a no_queueing ns)) (may n u a ns) n u ts ls a l ns) gs s e
+
+leaf_settled : (n u : List ℕ) (ts ls : List Glyph) (t : Settings) (l : Unit {0}) (ns : List (List ℕ)) → IsName n → IsName u → AreSettings ts t → NoMore ls l → AreNames ns → IsForm Third (text (codes "leaf") ∷ text n ∷ text (codes "using") ∷ text u ∷ ts ++ (ls ++ text (codes "classes") ∷ map text ns)) (leaf n u t.attrs t.queueing ns)
+leaf_settled n u ts ls t l ns is using set none are =
+    let P : List Glyph → Type 0 = λ ls. IsForm Third (text (codes "leaf") ∷ text n ∷ text (codes "using") ∷ text u ∷ ts ++ (ls ++ text (codes "classes") ∷ map text ns)) (leaf n u t.attrs t.queueing ns) in
+    subst P (sym none) (leaf_settings_form refl n u ts t ns is using set are)
+
+leaf_settings_sound : (gs : List Glyph) (s : Sense) → leaf_settings_rest gs ≡ Some (s, []) → IsForm Third (text (codes "leaf") ∷ gs) s
+unfolding leaf_settings_rest
+leaf_settings_sound gs s e = vertex_sound (λ _. Third) (codes "leaf") (codes "classes") settings AreSettings settings_were (pure tt) NoMore no_more_was (λ n u t l ns. leaf n u t.attrs t.queueing ns) leaf_settled gs s e
+
+node_settled : (n u : List ℕ) (ts ls : List Glyph) (t : Settings) (l : Unit {0}) (ns : List (List ℕ)) → IsName n → IsName u → AreSettings ts t → NoMore ls l → AreNames ns → IsForm Third (text (codes "node") ∷ text n ∷ text (codes "using") ∷ text u ∷ ts ++ (ls ++ text (codes "children") ∷ map text ns)) (node n u t.attrs t.queueing ns)
+node_settled n u ts ls t l ns is using set none are =
+    let P : List Glyph → Type 0 = λ ls. IsForm Third (text (codes "node") ∷ text n ∷ text (codes "using") ∷ text u ∷ ts ++ (ls ++ text (codes "children") ∷ map text ns)) (node n u t.attrs t.queueing ns) in
+    subst P (sym none) (node_settings_form refl n u ts t ns is using set are)
+
+node_settings_sound : (gs : List Glyph) (s : Sense) → node_settings_rest gs ≡ Some (s, []) → IsForm Third (text (codes "node") ∷ gs) s
+unfolding node_settings_rest
+node_settings_sound gs s e = vertex_sound (λ _. Third) (codes "node") (codes "children") settings AreSettings settings_were (pure tt) NoMore no_more_was (λ n u t l ns. node n u t.attrs t.queueing ns) node_settled gs s e
+
+leaf_by_sound : (m : Mode) (gs : List Glyph) (s : Sense) → leaf_by m gs ≡ Some (s, []) → IsForm (edition_at m s) (text (codes "leaf") ∷ gs) s
+leaf_by_sound (Opening Classic) gs s e = leaf_sound (λ _. Classic) (λ n u a l ns. refl) gs s e
+leaf_by_sound (Opening Third) gs s e = leaf_sound chosen (λ n u a l ns. refl) gs s e
+leaf_by_sound (Within Classic) gs s e = leaf_sound (λ _. Classic) (λ n u a l ns. refl) gs s e
+leaf_by_sound (Within Third) gs s e = leaf_settings_sound gs s e
+
+node_by_sound : (m : Mode) (gs : List Glyph) (s : Sense) → node_by m gs ≡ Some (s, []) → IsForm (edition_at m s) (text (codes "node") ∷ gs) s
+node_by_sound (Opening Classic) gs s e = node_sound (λ _. Classic) (λ n u a ns. refl) gs s e
+node_by_sound (Opening Third) gs s e = node_sound chosen (λ n u a ns. refl) gs s e
+node_by_sound (Within Classic) gs s e = node_sound (λ _. Classic) (λ n u a ns. refl) gs s e
+node_by_sound (Within Third) gs s e = node_settings_sound gs s e
 
 keyword_sound : (m : Mode) (k : Keyword) (gs : List Glyph) (s : Sense) → rest_by m (Some k) gs ≡ Some (s, []) → IsForm (edition_at m s) (text (keyword_word k) ∷ gs) s
 keyword_sound m keyword.Policy gs s e = version_sound m gs s e
@@ -216,8 +256,8 @@ keyword_sound m keyword.Each gs s e = each_sound (edition_at m s) gs s e
 keyword_sound m keyword.Push gs s e = push_sound (edition_at m s) gs s e
 keyword_sound m keyword.Pop gs s e = pop_sound (edition_at m s) gs s e
 keyword_sound m keyword.Class gs s e = class_by_sound m gs s e
-keyword_sound m keyword.Leaf gs s e = leaf_sound (edition_at m s) gs s e
-keyword_sound m keyword.Node gs s e = node_sound (edition_at m s) gs s e
+keyword_sound m keyword.Leaf gs s e = leaf_by_sound m gs s e
+keyword_sound m keyword.Node gs s e = node_by_sound m gs s e
 
 by_keyword : (m : Mode) (w : List ℕ) (gs : List Glyph) (s : Sense) (found : Option Keyword) → keyword_of w ≡ found → rest_by m found gs ≡ Some (s, []) → IsForm (edition_at m s) (text w ∷ gs) s
 by_keyword m w gs s None is e = absurd cc
@@ -253,18 +293,28 @@ alternatives_end : (ts : List Glyph) (cs : List (List Test)) → Alternatives ts
 alternatives_end ts cs unconditional = refl
 alternatives_end ts cs (alternatives us _ are) = refl
 
--- the mode reads classes as those of the statement's edition
-abbrev ReadsKind : Mode → Sense → Type 0
-ReadsKind m (class n a cs) = class_by m ≡ class_rest
-ReadsKind m (filter n a cs) = class_by m ≡ filter_rest
-ReadsKind m _ = Unit {0}
+abbrev leaf_of : Edition → Reader Sense
+leaf_of Classic = leaf_rest
+leaf_of Third = leaf_settings_rest
+
+abbrev node_of : Edition → Reader Sense
+node_of Classic = node_rest
+node_of Third = node_settings_rest
+
+-- the mode reads classes, leaves and nodes as those of the statement's edition
+abbrev ReadsKind : Mode → Edition → Sense → Type 0
+ReadsKind m e (class n a cs) = class_by m ≡ class_rest
+ReadsKind m e (filter n a cs) = class_by m ≡ filter_rest
+ReadsKind m e (leaf n u a q ns) = leaf_by m ≡ leaf_of e
+ReadsKind m e (node n u a q ns) = node_by m ≡ node_of e
+ReadsKind m e _ = Unit {0}
 
 span_alone : (s : Span) → span_tokens s ++ [] ≡ span_tokens s
 span_alone s = refl
 
 -- a form of an edition is read in each mode that allows the versions of the edition
-read_form : (mode : Mode) (ed : Edition) (gs : List Glyph) (s : Sense) → last_version ed ≤ last_at mode → ReadsKind mode s → IsForm ed gs s → a_form mode gs ≡ Some (s, [])
-unfolding a_form version_by transaction_rest keep_rest each_rest push_rest pop_rest class_rest filter_rest leaf_rest node_rest
+read_form : (mode : Mode) (ed : Edition) (gs : List Glyph) (s : Sense) → last_version ed ≤ last_at mode → ReadsKind mode ed s → IsForm ed gs s → a_form mode gs ≡ Some (s, [])
+unfolding a_form version_by transaction_rest keep_rest each_rest push_rest pop_rest class_rest filter_rest leaf_rest node_rest leaf_settings_rest node_settings_rest
 read_form mode ed gs s fits kind (version_form v is) =
     let last = is.below in
     let below : v ≤ last_at mode = omega arith in
@@ -276,10 +326,26 @@ read_form mode ed gs s fits kind (push_form n ts a is spells) = rw (target_reads
 read_form mode ed gs s fits kind (pop_form n ts a is spells) = rw (named_reads n (sign m.Is ∷ ts) is, read-Spells ts a spells) refl
 read_form mode ed gs s fits kind (class_form may n ts us a cs is attrs guards) = rw (kind, named_reads n (ts ++ us) is, read_attributes a ts us attrs (guard_ends us cs guards), read_guard cs us guards) refl
 read_form mode ed gs s fits kind (filter_form may n ts us a cs is attrs are) = rw (kind, named_reads n (ts ++ us) is, read_attributes a ts us attrs (alternatives_end us cs are), read_test_guard cs us are) refl
-read_form mode ed gs s fits kind (leaf_form n u ts ls a l ns is using attrs may are) =
+read_form mode Third gs s fits kind (leaf_form third n u ts ls a l ns is using attrs may are) = absurd cc
+read_form mode Classic gs s fits kind (leaf_form classic n u ts ls a l ns is using attrs may are) =
     let list : List Glyph = text (codes "classes") ∷ map text ns in
-    rw (named_reads n (text (codes "using") ∷ text u ∷ (ts ++ (ls ++ list))) is, named_reads u (ts ++ (ls ++ list)) using, read_attributes a ts (ls ++ list) attrs (limit_ends l ls (map text ns) may), read_limit l ls (map text ns) may, read_names ns are) refl
-read_form mode ed gs s fits kind (node_form n u ts a ns is using attrs are) = rw (named_reads n (text (codes "using") ∷ text u ∷ (ts ++ text (codes "children") ∷ map text ns)) is, named_reads u (ts ++ text (codes "children") ∷ map text ns) using, read_attributes a ts (text (codes "children") ∷ map text ns) attrs refl, read_names ns are) refl
+    let how : leaf_by mode ≡ leaf_rest = kind in
+    rw (how, named_reads n (text (codes "using") ∷ text u ∷ (ts ++ (ls ++ list))) is, named_reads u (ts ++ (ls ++ list)) using, read_attributes a ts (ls ++ list) attrs (limit_ends l ls (map text ns) may), read_limit l ls (map text ns) may, read_names ns are) refl
+read_form mode Third gs s fits kind (node_form third n u ts a ns is using attrs are) = absurd cc
+read_form mode Classic gs s fits kind (node_form classic n u ts a ns is using attrs are) =
+    let list : List Glyph = text (codes "children") ∷ map text ns in
+    let how : node_by mode ≡ node_rest = kind in
+    rw (how, named_reads n (text (codes "using") ∷ text u ∷ (ts ++ list)) is, named_reads u (ts ++ list) using, read_attributes a ts list attrs refl, read_names ns are) refl
+read_form mode Classic gs s fits kind (leaf_settings_form third n u ts t ns is using set are) = absurd cc
+read_form mode Third gs s fits kind (leaf_settings_form third n u ts t ns is using set are) =
+    let list : List Glyph = text (codes "classes") ∷ map text ns in
+    let how : leaf_by mode ≡ leaf_settings_rest = kind in
+    rw (how, named_reads n (text (codes "using") ∷ text u ∷ (ts ++ list)) is, named_reads u (ts ++ list) using, read_settings t ts list set (list_ends (map text ns)).0, read_names ns are) refl
+read_form mode Classic gs s fits kind (node_settings_form third n u ts t ns is using set are) = absurd cc
+read_form mode Third gs s fits kind (node_settings_form third n u ts t ns is using set are) =
+    let list : List Glyph = text (codes "children") ∷ map text ns in
+    let how : node_by mode ≡ node_settings_rest = kind in
+    rw (how, named_reads n (text (codes "using") ∷ text u ∷ (ts ++ list)) is, named_reads u (ts ++ list) using, read_settings t ts list set (list_ends (map text ns)).1, read_names ns are) refl
 
 last_case : (b : Bool) → last_version (cond b Classic Third) ≤ last_version Third
 last_case true = omega arith
@@ -294,8 +360,8 @@ last_chosen (push n a) = omega arith
 last_chosen (pop n a) = omega arith
 last_chosen (class n a cs) = omega arith
 last_chosen (filter n a cs) = omega arith
-last_chosen (leaf n u a l ns) = omega arith
-last_chosen (node n u a ns) = omega arith
+last_chosen (leaf n u a q ns) = omega arith
+last_chosen (node n u a q ns) = omega arith
 
 -- the mode allows the versions of the edition in which it reads a statement
 last_fits : (m : Mode) (s : Sense) → last_version (edition_at m s) ≤ last_at m
@@ -313,8 +379,10 @@ form_kind ed gs s (push_form n ts a is spells) = refl
 form_kind ed gs s (pop_form n ts a is spells) = refl
 form_kind ed gs s (class_form may n ts us a cs is attrs guards) = may
 form_kind ed gs s (filter_form may n ts us a cs is attrs are) = may
-form_kind ed gs s (leaf_form n u ts ls a l ns is using attrs may are) = refl
-form_kind ed gs s (node_form n u ts a ns is using attrs are) = refl
+form_kind ed gs s (leaf_form may n u ts ls a l ns is using attrs limit are) = refl
+form_kind ed gs s (node_form may n u ts a ns is using attrs are) = refl
+form_kind ed gs s (leaf_settings_form may n u ts t ns is using set are) = rw (may, or-true (has_only_packets t.queueing)) refl
+form_kind ed gs s (node_settings_form may n u ts t ns is using set are) = rw (may, or-true (has_nothing t.queueing)) refl
 
 class_kind : (m : Mode) (n : List ℕ) (a : Attrs) (cs : List Condition) → has_conditions (edition_at m (class n a cs)) ≡ true → class_by m ≡ class_rest
 class_kind (Opening e) n a cs may = refl
@@ -327,7 +395,19 @@ filter_kind (Opening Third) n a cs may = absurd cc
 filter_kind (Within Classic) n a cs may = absurd cc
 filter_kind (Within Third) n a cs may = refl
 
-kind_reads : (m : Mode) (s : Sense) → is_of (edition_at m s) s ≡ true → ReadsKind m s
+leaf_kind : (m : Mode) (n u : List ℕ) (a : Attrs) (q : Queueing) (ns : List (List ℕ)) → leaf_by m ≡ leaf_of (edition_at m (leaf n u a q ns))
+leaf_kind (Opening Classic) n u a q ns = refl
+leaf_kind (Opening Third) n u a q ns = refl
+leaf_kind (Within Classic) n u a q ns = refl
+leaf_kind (Within Third) n u a q ns = refl
+
+node_kind : (m : Mode) (n u : List ℕ) (a : Attrs) (q : Queueing) (ns : List (List ℕ)) → node_by m ≡ node_of (edition_at m (node n u a q ns))
+node_kind (Opening Classic) n u a q ns = refl
+node_kind (Opening Third) n u a q ns = refl
+node_kind (Within Classic) n u a q ns = refl
+node_kind (Within Third) n u a q ns = refl
+
+kind_reads : (m : Mode) (s : Sense) → is_of (edition_at m s) s ≡ true → ReadsKind m (edition_at m s) s
 kind_reads m (class n a cs) may = class_kind m n a cs may
 kind_reads m (filter n a cs) may = filter_kind m n a cs may
 kind_reads m (version v) may = tt
@@ -336,8 +416,8 @@ kind_reads m (keep n s) may = tt
 kind_reads m (each n s) may = tt
 kind_reads m (push n a) may = tt
 kind_reads m (pop n a) may = tt
-kind_reads m (leaf n u a l ns) may = tt
-kind_reads m (node n u a ns) may = tt
+kind_reads m (leaf n u a q ns) may = leaf_kind m n u a q ns
+kind_reads m (node n u a q ns) may = node_kind m n u a q ns
 
 pub read-IsForm : (m : Mode) (gs : List Glyph) (s : Sense) → IsFormAt m gs s → a_statement m gs ≡ Some (s, [])
 unfolding a_statement named_at

@@ -7,7 +7,13 @@ use Rattle.policy_text_defs.proofs.ValidProps.{IsValidIn-prop}
 use Rattle.policy_text_defs.proofs.ConditionValid.{guard_valid}
 use Rattle.policy_text_defs.proofs.TestValid.{alternatives_valid}
 use Rattle.policy_text_defs.proofs.StatementLaws.{form_kind}
-use Rattle.policy_text_defs.specs.Statements.{limited}
+use Rattle.policy_text_defs.specs.declared.queueing.Queueing.{Queueing}
+use Rattle.policy_text_defs.specs.declared.queueing.Bound.{Bound}
+use Rattle.policy_text_defs.specs.declared.queueing.Bound.TheVariants as bound
+use Rattle.policy_text_defs.specs.declared.setting.Settings.{Settings}
+use Rattle.policy_text_defs.specs.Settings.{no_queueing, only_packets, with_bound, settings_of, with_attrs, with_limit, with_flow}
+use Rattle.policy_text_defs.specs.Statements.{limited, leaf_settings_form, node_settings_form, SettingsFrom, settled, attribute_setting, limit_setting, flow_setting, AreSettings}
+use Rattle.policy_text_defs.specs.Valid.{AreValidLimits}
 use Rattle.policy_text_defs.proofs.NumberLimits.{IsLexed, Says-lexed}
 
 abbrev AreLexed : List Glyph → Type 0
@@ -79,9 +85,37 @@ attributes_from a gs b (set k n ts _ _ may later) are = attributes_from (with_at
 attributes_valid : (ts : List Glyph) (a : Attrs) → Attributes ts a → AreValidAttributes a
 attributes_valid ts a is = attributes_from unset ts a is (record { prio = tt; weight = tt; slack = tt })
 
-limit_valid : (ls : List Glyph) (l : Option ℕ) → Limit ls l → IfSome l IsLimit
+limit_valid : (ls : List Glyph) (l : Option ℕ) → Limit ls l → IfSome l (IsLimit bound.Packets)
 limit_valid ls l unlimited = tt
 limit_valid ls l (limited n is) = is
+
+packets_valid : (ls : List Glyph) (l : Option ℕ) → Limit ls l → AreValidLimits (only_packets l)
+packets_valid ls l is = record { packets = limit_valid ls l is; bytes = tt; per_flow = tt }
+
+none_valid : AreValidLimits no_queueing
+none_valid = record { packets = tt; bytes = tt; per_flow = tt }
+
+-- ---- settings
+
+record AreValidSettings (s : Settings) : Type 0 where
+  attrs : AreValidAttributes s.attrs
+  limits : AreValidLimits s.queueing
+
+bound_valid : (b : Bound) (n : ℕ) (q : Queueing) → IsLimit b n → AreValidLimits q → AreValidLimits (with_bound b n q)
+bound_valid bound.Packets n q is are = record { packets = is; bytes = are.bytes; per_flow = are.per_flow }
+bound_valid bound.Bytes n q is are = record { packets = are.packets; bytes = is; per_flow = are.per_flow }
+bound_valid bound.PerFlow n q is are = record { packets = are.packets; bytes = are.bytes; per_flow = is }
+
+settings_from : (s : Settings) (ts : List Glyph) (t : Settings) → SettingsFrom s ts t → AreValidSettings s → AreValidSettings t
+settings_from s ts t (settled _) are = are
+settings_from s ts t (attribute_setting k n us _ _ may on) are = settings_from (with_attrs (with_attribute k n s.attrs) s) us t on (record { attrs = with_valid k n s.attrs (record { above = may.above; below = may.below }) are.attrs; limits = are.limits })
+settings_from s ts t (limit_setting b n us vs _ _ is may on) are = settings_from (with_limit b n s) vs t on (record { attrs = are.attrs; limits = bound_valid b n s.queueing may.is are.limits })
+settings_from s ts t (flow_setting g us vs _ _ is free on) are =
+    let limits = are.limits in
+    settings_from (with_flow g s) vs t on (record { attrs = are.attrs; limits = record { packets = limits.packets; bytes = limits.bytes; per_flow = limits.per_flow } })
+
+settings_valid : (ts : List Glyph) (s : Settings) → AreSettings ts s → AreValidSettings s
+settings_valid ts s are = settings_from (settings_of unset no_queueing) ts s are (record { attrs = record { prio = tt; weight = tt; slack = tt }; limits = none_valid })
 
 -- ---- statements
 
@@ -98,8 +132,10 @@ form_valid e gs s all (push_form n ts a target spells) = (target_is n target, ph
 form_valid e gs s all (pop_form n ts a name spells) = (name, phrase_valid ts a all.1.1.1 spells)
 form_valid e gs s all (class_form may n ts us a cs name attributes guard) = (name, attributes_valid ts a attributes, guard_valid us cs guard)
 form_valid e gs s all (filter_form may n ts us a cs name attributes are) = (name, attributes_valid ts a attributes, alternatives_valid us cs are)
-form_valid e gs s all (leaf_form n u ts ls a l ns name used attributes limit names) = (name, used, attributes_valid ts a attributes, limit_valid ls l limit, names)
-form_valid e gs s all (node_form n u ts a ns name used attributes names) = (name, used, attributes_valid ts a attributes, names)
+form_valid e gs s all (leaf_form may n u ts ls a l ns name used attributes limit names) = (name, used, attributes_valid ts a attributes, packets_valid ls l limit, names)
+form_valid e gs s all (node_form may n u ts a ns name used attributes names) = (name, used, attributes_valid ts a attributes, none_valid, names)
+form_valid e gs s all (leaf_settings_form may n u ts t ns name used settings names) = let are = settings_valid ts t settings in (name, used, are.attrs, are.limits, names)
+form_valid e gs s all (node_settings_form may n u ts t ns name used settings names) = let are = settings_valid ts t settings in (name, used, are.attrs, are.limits, names)
 
 -- a statement on a line is valid in the edition in which it is read
 pub CarriesAt_IsValidIn : (m : Mode) (line : List ℕ) (s : Sense) → CarriesAt m line s → IsValidIn (edition_at m s) s
@@ -122,8 +158,8 @@ valid_in_some Classic (push n a) is = is
 valid_in_some Classic (pop n a) is = is
 valid_in_some Classic (class n a cs) is = is
 valid_in_some Classic (filter n a cs) is = is
-valid_in_some Classic (leaf n u a l ns) is = is
-valid_in_some Classic (node n u a ns) is = is
+valid_in_some Classic (leaf n u a q ns) is = is
+valid_in_some Classic (node n u a q ns) is = is
 
 -- a statement that can be written in an edition is valid
 pub IsWritten_IsValid : {e : Edition} (s : Sense) → IsWritten e s → IsValid s

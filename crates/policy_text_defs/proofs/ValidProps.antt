@@ -2,6 +2,10 @@
 use Rattle.policy_text_defs.proofs.Prelude.{List, ℕ, Some, None, Option, AllByRecursion, AllByRecursion-prop, IfSome, Phrase, two, choice, negation, number, word, Sense, class, filter, each, keep, leaf, node, pop, push, transaction, version, IsLimit, IsName, AreNames, IsValidIn, HasParts, AreValidAttributes, HasOperands, IsValidCondition, IsValidAttribute, IsValidPhrase, Attribute, Attrs, Condition, Edition}
 use Rattle.policy_text_defs.proofs.TestValid.{alternatives-prop}
 use Rattle.std.proofs.Props.{props}
+use Rattle.policy_text_defs.specs.declared.queueing.Queueing.{Queueing}
+use Rattle.policy_text_defs.specs.declared.queueing.Bound.{Bound}
+use Rattle.policy_text_defs.specs.declared.queueing.Bound.TheVariants as bound
+use Rattle.policy_text_defs.specs.Valid.{AreValidLimits}
 use Rattle.policy_text_defs.specs.declared.attribute.Attribute.TheVariants as attribute
 use Rattle.policy_text_defs.specs.declared.condition.Condition.TheVariants as condition
 
@@ -22,9 +26,12 @@ attribute-prop k (Some n) = hlevel props
 attributes-prop : (a : Attrs) → IsProp (AreValidAttributes a)
 attributes-prop a = hlevel (props, attribute-prop attribute.Prio a.prio, attribute-prop attribute.Weight a.weight, attribute-prop attribute.Slack a.slack)
 
-limit-prop : (l : Option ℕ) → IsProp (IfSome l IsLimit)
-limit-prop None = hlevel props
-limit-prop (Some n) = hlevel props
+limit-prop : (b : Bound) (l : Option ℕ) → IsProp (IfSome l (IsLimit b))
+limit-prop b None = hlevel props
+limit-prop b (Some n) = hlevel props
+
+limits-prop : (q : Queueing) → IsProp (AreValidLimits q)
+limits-prop q = hlevel (props, limit-prop bound.Packets q.packets, limit-prop bound.Bytes q.bytes, limit-prop bound.PerFlow q.per_flow)
 
 condition-prop : (c : Condition) → IsProp (IsValidCondition c)
 condition-prop (condition.Field f low high) = hlevel props
@@ -54,8 +61,8 @@ parts-prop e (push n a) = hlevel (props, phrase-prop a)
 parts-prop e (pop n a) = hlevel (props, phrase-prop a)
 parts-prop e (class n a cs) = hlevel (props, attributes-prop a, conditions-prop cs)
 parts-prop e (filter n a cs) = hlevel (props, attributes-prop a, alternatives-prop cs)
-parts-prop e (leaf n u a l ns) = hlevel (props, attributes-prop a, limit-prop l, are-names-prop ns)
-parts-prop e (node n u a ns) = hlevel (props, attributes-prop a, are-names-prop ns)
+parts-prop e (leaf n u a q ns) = hlevel (props, attributes-prop a, limits-prop q, are-names-prop ns)
+parts-prop e (node n u a q ns) = hlevel (props, attributes-prop a, limits-prop q, are-names-prop ns)
 
 pub IsValidIn-prop : (e : Edition) (s : Sense) → IsProp (IsValidIn e s)
 IsValidIn-prop e s = hlevel (props, parts-prop e s)

@@ -9,6 +9,12 @@ use Rattle.rank_defs.specs.declared.transaction.Span.{Span}
 use Rattle.policy_text_defs.specs.declared.attribute.Attrs.{Attrs}
 use Rattle.policy_text_defs.specs.declared.attribute.Attribute.{Attribute}
 use Rattle.policy_text_defs.specs.declared.attribute.Attribute.TheVariants as attribute
+use Rattle.rank_defs.specs.declared.flow_group.FlowGroup.{FlowGroup}
+use Rattle.rank_defs.specs.declared.flow_group.FlowGroup.TheVariants as group
+use Rattle.policy_text_defs.specs.declared.queueing.Queueing.{Queueing}
+use Rattle.policy_text_defs.specs.declared.queueing.Bound.{Bound}
+use Rattle.policy_text_defs.specs.declared.queueing.Bound.TheVariants as bound
+use Rattle.policy_text_defs.specs.Settings.{no_queueing, only_packets}
 use Rattle.policy_text_defs.specs.declared.condition.Condition.{Condition}
 use Rattle.policy_text_defs.specs.declared.condition.Condition.TheVariants as condition
 use Rattle.policy_text_defs.specs.declared.condition.FieldName.TheVariants as field
@@ -206,10 +212,31 @@ attribute_text k (Some n) = codes " " ++ (attribute_word k ++ (codes " " ++ deci
 abbrev pub attributes_text : Attrs → List ℕ
 attributes_text a = attribute_text attribute.Prio a.prio ++ (attribute_text attribute.Weight a.weight ++ attribute_text attribute.Slack a.slack)
 
+-- the unit of a limit with the space before it, or nothing if it is in packets
+abbrev pub unit_text : Bound → List ℕ
+unit_text bound.Packets = []
+unit_text bound.Bytes = codes " bytes"
+unit_text bound.PerFlow = codes " per flow"
+
 -- a limit with the space before it, or nothing if there is none
-abbrev pub limit_text : Option ℕ → List ℕ
-limit_text None = []
-limit_text (Some n) = codes " limit " ++ decimal n
+abbrev pub limit_text : Bound → Option ℕ → List ℕ
+limit_text b None = []
+limit_text b (Some n) = codes " limit " ++ (decimal n ++ unit_text b)
+
+abbrev pub keys_text : FlowGroup → List ℕ
+keys_text group.Source = codes "src"
+keys_text group.Target = codes "dst"
+keys_text group.Hosts = codes "src dst"
+keys_text group.FiveTuple = codes "5tuple"
+
+-- by what flows are told apart, with the space before it, or nothing if it isn't given
+abbrev pub flow_text : Option FlowGroup → List ℕ
+flow_text None = []
+flow_text (Some g) = codes " flow by " ++ keys_text g
+
+-- the limits that are given, in packets, in bytes and for each flow, and then the flow group
+abbrev pub queueing_text : Queueing → List ℕ
+queueing_text q = limit_text bound.Packets q.packets ++ (limit_text bound.Bytes q.bytes ++ (limit_text bound.PerFlow q.per_flow ++ flow_text q.by))
 
 -- names, each with the space before it
 abbrev pub names_text : List (List ℕ) → List ℕ
@@ -234,8 +261,8 @@ statement_text (push n a) = assignment_text (codes "push ") n a
 statement_text (pop n a) = assignment_text (codes "pop ") n a
 statement_text (class n a cs) = codes "class " ++ (n ++ (attributes_text a ++ guard_text cs))
 statement_text (filter n a cs) = codes "class " ++ (n ++ (attributes_text a ++ alternatives_text cs))
-statement_text (leaf n u a l ns) = codes "leaf " ++ (n ++ (codes " using " ++ (u ++ (attributes_text a ++ (limit_text l ++ (codes " classes" ++ names_text ns))))))
-statement_text (node n u a ns) = codes "node " ++ (n ++ (codes " using " ++ (u ++ (attributes_text a ++ (codes " children" ++ names_text ns)))))
+statement_text (leaf n u a q ns) = codes "leaf " ++ (n ++ (codes " using " ++ (u ++ (attributes_text a ++ (queueing_text q ++ (codes " classes" ++ names_text ns))))))
+statement_text (node n u a q ns) = codes "node " ++ (n ++ (codes " using " ++ (u ++ (attributes_text a ++ (queueing_text q ++ (codes " children" ++ names_text ns))))))
 
 -- the lines of statements in order, each ended by a line feed
 abbrev pub canonical_text : List Sense → List ℕ
@@ -258,13 +285,20 @@ addresses_have_a_length : statement_text (class (codes "backup") (record { prio 
 unfolding digits
 addresses_have_a_length = refl
 
-lines_have_ends : canonical_text (version 1 ∷ keep (codes "vt") (record { low = 0; high = 7; first = 0 }) ∷ leaf (codes "root") (codes "fifo") (record { prio = None; weight = Some 4; slack = None }) None (codes "a" ∷ codes "b" ∷ []) ∷ []) ≡ codes "policy 1\nkeep vt 0..7 = 0\nleaf root using fifo weight 4 classes a b\n"
+lines_have_ends : canonical_text (version 1 ∷ keep (codes "vt") (record { low = 0; high = 7; first = 0 }) ∷ leaf (codes "root") (codes "fifo") (record { prio = None; weight = Some 4; slack = None }) no_queueing (codes "a" ∷ codes "b" ∷ []) ∷ []) ≡ codes "policy 1\nkeep vt 0..7 = 0\nleaf root using fifo weight 4 classes a b\n"
 unfolding digits
 lines_have_ends = refl
 
-a_limit_follows_the_attributes : canonical_text (version 2 ∷ leaf (codes "root") (codes "fifo") (record { prio = None; weight = Some 4; slack = None }) (Some 64) (codes "a" ∷ []) ∷ []) ≡ codes "policy 2\nleaf root using fifo weight 4 limit 64 classes a\n"
+a_limit_follows_the_attributes : canonical_text (version 2 ∷ leaf (codes "root") (codes "fifo") (record { prio = None; weight = Some 4; slack = None }) (only_packets (Some 64)) (codes "a" ∷ []) ∷ []) ≡ codes "policy 2\nleaf root using fifo weight 4 limit 64 classes a\n"
 unfolding digits
 a_limit_follows_the_attributes = refl
+
+settings_in_order : statement_text (node (codes "root") (codes "wfq") (record { prio = Some 1; weight = Some 4; slack = Some 0 }) (record { packets = Some 64; bytes = Some 96000; per_flow = Some 8; by = Some group.Hosts }) (codes "a" ∷ [])) ≡ codes "node root using wfq prio 1 weight 4 slack 0 limit 64 limit 96000 bytes limit 8 per flow flow by src dst children a"
+unfolding digits
+settings_in_order = refl
+
+keys_of_flows : map keys_text (group.Source ∷ group.Target ∷ group.Hosts ∷ group.FiveTuple ∷ []) ≡ codes "src" ∷ codes "dst" ∷ codes "src dst" ∷ codes "5tuple" ∷ []
+keys_of_flows = refl
 
 ranges_in_braces : map ranges_text ((range_at 80 80 ∷ []) ∷ (range_at 80 80 ∷ range_at 443 443 ∷ range_at 8000 8099 ∷ []) ∷ []) ≡ codes "80" ∷ codes "{80, 443, 8000..8099}" ∷ []
 unfolding digits

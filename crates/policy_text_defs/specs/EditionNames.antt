@@ -26,8 +26,8 @@ has_names e (push n a) = has_name e n && has_words e a
 has_names e (pop n a) = has_name e n && has_words e a
 has_names e (class n a cs) = has_name e n
 has_names e (filter n a cs) = has_name e n
-has_names e (leaf n u a l ns) = has_name e n && (has_name e u && list_all (has_name e) ns)
-has_names e (node n u a ns) = has_name e n && (has_name e u && list_all (has_name e) ns)
+has_names e (leaf n u a q ns) = has_name e n && (has_name e u && list_all (has_name e) ns)
+has_names e (node n u a q ns) = has_name e n && (has_name e u && list_all (has_name e) ns)
 
 -- each edition has names that the other doesn't have
 names_by_edition : map (λ (e : Edition). has_names e (transaction (codes "a-b"))) (Classic ∷ Third ∷ []) ≡ false ∷ true ∷ []

@@ -6,6 +6,7 @@ pub mod Phrase
 pub mod Ranges
 pub mod Reading
 pub mod Sense
+pub mod Settings
 pub mod StatementReading
 pub mod Statements
 pub mod TestReading

@@ -5,6 +5,8 @@ use Rattle.policy_text_defs.specs.declared.edition.Edition.{Edition}
 use Rattle.policy_text_defs.specs.declared.edition.Edition.TheVariants.{Classic, Third}
 use Rattle.policy_text_defs.specs.declared.attribute.Attribute.{Attribute}
 use Rattle.policy_text_defs.specs.declared.attribute.Attribute.TheVariants as attribute
+use Rattle.policy_text_defs.specs.declared.queueing.Bound.{Bound}
+use Rattle.policy_text_defs.specs.declared.queueing.Bound.TheVariants as bound
 use Rattle.policy_text_defs.specs.declared.condition.FieldName.{FieldName}
 use Rattle.policy_text_defs.specs.declared.condition.FieldName.TheVariants as field
 
@@ -28,12 +30,18 @@ abbrev pub last_version : Edition → ℕ
 last_version Classic = 2
 last_version Third = 3
 
--- the least and greatest limit of a leaf, in packets
+-- the least limit of a leaf or node, and the greatest one, in packets
 abbrev pub limit_least : ℕ
 limit_least = 1
 
 abbrev pub limit_most : ℕ
 limit_most = 4194304
+
+-- the greatest limit, by what it counts
+abbrev pub bound_most : Bound → ℕ
+bound_most bound.Packets = limit_most
+bound_most bound.Bytes = 4294967295
+bound_most bound.PerFlow = limit_most
 
 -- the greatest value of a field
 abbrev pub field_most : FieldName → ℕ
@@ -62,6 +70,10 @@ least_numbers = refl
 -- a VLAN identifier has 12 bits, a DSCP 6, a protocol 8, a port 16
 bits_of_fields : map field_most (field.Vlan ∷ field.Dscp ∷ field.Proto ∷ field.Sport ∷ field.Dport ∷ []) ≡ (2 ^ 12 - 1) ∷ (2 ^ 6 - 1) ∷ (2 ^ 8 - 1) ∷ (2 ^ 16 - 1) ∷ (2 ^ 16 - 1) ∷ []
 bits_of_fields = refl
+
+-- a limit in bytes has 32 bits
+limits_by_unit : map bound_most (bound.Packets ∷ bound.Bytes ∷ bound.PerFlow ∷ []) ≡ (2 ^ 22) ∷ (2 ^ 32 - 1) ∷ (2 ^ 22) ∷ []
+limits_by_unit = refl
 
 -- a text of 1 MiB, and a limit of 4 Mi packets
 powers_of_two : most_text ∷ limit_most ∷ [] ≡ (2 ^ 20) ∷ (2 ^ 22) ∷ []

@@ -1,8 +1,9 @@
 -- Statements without their location in memory.
-use Rattle.std.specs.Prelude.{◌≡◌, refl, ℕ, suc, List, [], ◌∷◌, Option, codes}
+use Rattle.std.specs.Prelude.{◌≡◌, refl, ℕ, suc, List, [], ◌∷◌, codes}
 use Rattle.rank_defs.specs.declared.transaction.Span.{Span}
 use Rattle.policy_text_defs.specs.declared.attribute.Attrs.{Attrs}
 use Rattle.policy_text_defs.specs.declared.condition.Condition.{Condition}
+use Rattle.policy_text_defs.specs.declared.queueing.Queueing.{Queueing}
 use Rattle.policy_text_defs.specs.declared.test.Test.{Test}
 use Rattle.policy_text_defs.specs.declared.statement.Statement.{Statement}
 use Rattle.policy_text_defs.specs.declared.statement.Statement.TheVariants as statement
@@ -17,8 +18,8 @@ pub data Sense : Type 0 where
   pop : (name : List ℕ) → Phrase → Sense
   class : (name : List ℕ) → Attrs → List Condition → Sense
   filter : (name : List ℕ) → Attrs → List (List Test) → Sense
-  leaf : (name used : List ℕ) → Attrs → (limit : Option ℕ) → (classes : List (List ℕ)) → Sense
-  node : (name used : List ℕ) → Attrs → (children : List (List ℕ)) → Sense
+  leaf : (name used : List ℕ) → Attrs → Queueing → (classes : List (List ℕ)) → Sense
+  node : (name used : List ℕ) → Attrs → Queueing → (children : List (List ℕ)) → Sense
 
 abbrev pub sense_of : Statement → Sense
 sense_of (statement.Version v) = version v
@@ -29,8 +30,8 @@ sense_of (statement.Push n t) = push n (phrase_of t)
 sense_of (statement.Pop n t) = pop n (phrase_of t)
 sense_of (statement.Class n a cs) = class n a cs
 sense_of (statement.Filter n a cs) = filter n a cs
-sense_of (statement.Leaf n u a l ns) = leaf n u a l ns
-sense_of (statement.Node n u a ns) = node n u a ns
+sense_of (statement.Leaf n u a q ns) = leaf n u a q ns
+sense_of (statement.Node n u a q ns) = node n u a q ns
 
 -- a line's number and its statement
 abbrev pub Entry : Type 0

@@ -8,6 +8,13 @@ use Rattle.policy_text_defs.specs.declared.edition.Mode.{Mode}
 use Rattle.policy_text_defs.specs.declared.edition.Mode.TheVariants.{Opening, Within}
 use Rattle.policy_text_defs.specs.declared.attribute.Attrs.{Attrs}
 use Rattle.policy_text_defs.specs.declared.attribute.Attribute.{Attribute}
+use Rattle.rank_defs.specs.declared.flow_group.FlowGroup.{FlowGroup}
+use Rattle.rank_defs.specs.declared.flow_group.FlowGroup.TheVariants as group
+use Rattle.policy_text_defs.specs.declared.queueing.Bound.{Bound}
+use Rattle.policy_text_defs.specs.declared.queueing.Bound.TheVariants as bound
+use Rattle.policy_text_defs.specs.declared.setting.Setting.{Setting}
+use Rattle.policy_text_defs.specs.declared.setting.Setting.TheVariants as setting
+use Rattle.policy_text_defs.specs.declared.setting.Settings.{Settings}
 use Rattle.policy_text_defs.specs.declared.condition.FieldName.{FieldName}
 use Rattle.policy_text_defs.specs.declared.condition.FieldName.TheVariants as field_name
 use Rattle.policy_text_defs.specs.declared.condition.Condition.{Condition}
@@ -16,13 +23,14 @@ use Rattle.policy_text_defs.specs.declared.condition.Subject.{Subject}
 use Rattle.policy_text_defs.specs.declared.condition.Subject.TheVariants as subject
 use Rattle.policy_text_defs.specs.declared.keyword.Keyword.{Keyword}
 use Rattle.policy_text_defs.specs.declared.keyword.Keyword.TheVariants as keyword
-use Rattle.policy_text_defs.specs.Words.{is_name, is_target, attribute_of, subject_of, protocol_of, keyword_of, passing}
-use Rattle.policy_text_defs.specs.Ranges.{attribute_least, attribute_most, first_version, limit_least, limit_most, field_most}
+use Rattle.policy_text_defs.specs.Words.{is_name, is_target, attribute_of, setting_of, bound_of, group_of, subject_of, protocol_of, keyword_of, passing}
+use Rattle.policy_text_defs.specs.Ranges.{attribute_least, attribute_most, first_version, limit_least, limit_most, bound_most, field_most}
 use Rattle.policy_text_defs.specs.Phrase.{most_open}
 use Rattle.policy_text_defs.specs.Editions.{edition_at, last_at}
 use Rattle.policy_text_defs.specs.EditionNames.{has_names}
 use Rattle.policy_text_defs.specs.Sense.{Sense, version, transaction, keep, each, push, pop, class, filter, leaf, node}
 use Rattle.policy_text_defs.specs.Statements.{unset, attribute_value, with_attribute}
+use Rattle.policy_text_defs.specs.Settings.{no_queueing, only_packets, is_open, bound_value, settings_of, with_attrs, with_limit, with_flow}
 unfoldable pub use Rattle.policy_text_defs.specs.TokenReading.{repeated, many, within, upper, address, prefix_length}
 pub use Rattle.policy_text_defs.specs.TokenReading.{word_of, a_word, figure_of, a_number, number_to, word_ahead, octets_at}
 use Rattle.policy_text_defs.specs.TestReading.{test_guard}
@@ -91,6 +99,71 @@ limit_by n = if nat_le limit_least n && nat_le n limit_most then pure (Some n) e
 -- the number after `limit`, or none if there is no `limit`
 unfoldable pub limit : Reader (Option ℕ)
 limit gs = pick (ahead (word_ahead (codes "limit")) gs) (Some (None, gs)) (λ t. (a_number >>= limit_by) t.1)
+
+-- ---- settings
+
+abbrev pub unit_ahead : Glyph → Option Bound
+unit_ahead (text w) = bound_of w
+unit_ahead _ = None
+
+-- the rest of a unit after its first word
+abbrev pub unit_rest : Bound → Reader Bound
+unit_rest bound.Packets = pure bound.Packets
+unit_rest bound.Bytes = pure bound.Bytes
+unit_rest bound.PerFlow = literal (codes "flow") >>= (λ u. pure bound.PerFlow)
+
+-- the unit of a limit, or packets if none follows
+unfoldable pub unit : Reader Bound
+unit gs = pick (ahead unit_ahead gs) (Some (bound.Packets, gs)) (λ t. unit_rest t.0 t.1)
+
+unfoldable pub limit_to : Settings → ℕ → Bound → Reader Settings
+limit_to s n b = if is_open (bound_value b s.queueing) && (nat_le limit_least n && nat_le n (bound_most b)) then pure (with_limit b n s) else refuse
+
+-- a limit after its first word
+abbrev pub limit_next : Settings → Reader Settings
+limit_next s = do
+  n ← a_number
+  b ← unit
+  limit_to s n b
+
+-- the keys after `src`
+unfoldable pub source_keys : Reader FlowGroup
+source_keys gs = pick (ahead (word_ahead (codes "dst")) gs) (Some (group.Source, gs)) (λ t. Some (group.Hosts, t.1))
+
+abbrev pub keys_by : Option FlowGroup → Reader FlowGroup
+keys_by None = refuse
+keys_by (Some group.Source) = source_keys
+keys_by (Some group.Target) = pure group.Target
+keys_by (Some group.Hosts) = pure group.Hosts
+keys_by (Some group.FiveTuple) = pure group.FiveTuple
+
+unfoldable pub keys : Reader FlowGroup
+keys = a_word >>= (λ w. keys_by (group_of w))
+
+unfoldable pub flow_to : Settings → FlowGroup → Reader Settings
+flow_to s g = if is_open s.queueing.by then pure (with_flow g s) else refuse
+
+-- a flow group after its first word
+abbrev pub flow_next : Settings → Reader Settings
+flow_next s = do
+  literal (codes "by")
+  g ← keys
+  flow_to s g
+
+abbrev pub setting_at : Glyph → Option Setting
+setting_at (text w) = setting_of w
+setting_at _ = None
+
+abbrev pub setting_next : Setting → Settings → Reader Settings
+setting_next (setting.Attribute k) s = set_next k s.attrs >>= (λ a. pure (with_attrs a s))
+setting_next setting.Limit s = limit_next s
+setting_next setting.Flow s = flow_next s
+
+abbrev pub no_settings : Settings
+no_settings = settings_of unset no_queueing
+
+abbrev pub settings : Reader Settings
+settings = many (ahead setting_at) setting_next no_settings
 
 -- ---- conditions
 
@@ -211,7 +284,17 @@ leaf_rest = do
   l ← limit
   literal (codes "classes")
   ns ← names
-  pure (leaf n u a l ns)
+  pure (leaf n u a (only_packets l) ns)
+
+unfoldable pub leaf_settings_rest : Reader Sense
+leaf_settings_rest = do
+  n ← name
+  literal (codes "using")
+  u ← name
+  s ← settings
+  literal (codes "classes")
+  ns ← names
+  pure (leaf n u s.attrs s.queueing ns)
 
 unfoldable pub node_rest : Reader Sense
 node_rest = do
@@ -221,7 +304,28 @@ node_rest = do
   a ← attributes
   literal (codes "children")
   ns ← names
-  pure (node n u a ns)
+  pure (node n u a no_queueing ns)
+
+unfoldable pub node_settings_rest : Reader Sense
+node_settings_rest = do
+  n ← name
+  literal (codes "using")
+  u ← name
+  s ← settings
+  literal (codes "children")
+  ns ← names
+  pure (node n u s.attrs s.queueing ns)
+
+-- leaves and nodes have settings only in the third edition
+abbrev pub leaf_by : Mode → Reader Sense
+leaf_by (Opening e) = leaf_rest
+leaf_by (Within Classic) = leaf_rest
+leaf_by (Within Third) = leaf_settings_rest
+
+abbrev pub node_by : Mode → Reader Sense
+node_by (Opening e) = node_rest
+node_by (Within Classic) = node_rest
+node_by (Within Third) = node_settings_rest
 
 abbrev pub rest_by : Mode → Option Keyword → Reader Sense
 rest_by m None = refuse
@@ -232,8 +336,8 @@ rest_by m (Some keyword.Each) = each_rest
 rest_by m (Some keyword.Push) = push_rest
 rest_by m (Some keyword.Pop) = pop_rest
 rest_by m (Some keyword.Class) = class_by m
-rest_by m (Some keyword.Leaf) = leaf_rest
-rest_by m (Some keyword.Node) = node_rest
+rest_by m (Some keyword.Leaf) = leaf_by m
+rest_by m (Some keyword.Node) = node_by m
 
 unfoldable pub a_form : Mode → Reader Sense
 a_form m = a_word >>= (λ w. rest_by m (keyword_of w))
@@ -274,3 +378,42 @@ ranges = refl
 attributes_once : map (λ (k : List ℕ × ℕ). attributes (text (codes "weight") ∷ figure 3 ∷ text k.0 ∷ figure k.1 ∷ [])) ((codes "prio", 0) ∷ (codes "weight", 3) ∷ []) ≡ Some (record { prio = Some 0; weight = Some 3; slack = None }, []) ∷ None ∷ []
 unfolding many repeated set_to
 attributes_once = refl
+
+-- each limit by its unit, and packets if there is none
+units : map unit ([] ∷ (text (codes "packets") ∷ []) ∷ (text (codes "bytes") ∷ []) ∷ (text (codes "per") ∷ text (codes "flow") ∷ []) ∷ (text (codes "per") ∷ []) ∷ (text (codes "flow") ∷ []) ∷ []) ≡ Some (bound.Packets, []) ∷ Some (bound.Packets, []) ∷ Some (bound.Bytes, []) ∷ Some (bound.PerFlow, []) ∷ None ∷ Some (bound.Packets, text (codes "flow") ∷ []) ∷ []
+unfolding unit
+units = refl
+
+-- the greatest limit depends on the unit, and no limit is 0
+limits : map (λ (k : List ℕ × ℕ). settings (text (codes "limit") ∷ figure k.1 ∷ text k.0 ∷ [])) ((codes "packets", 4194304) ∷ (codes "packets", 4194305) ∷ (codes "packets", 0) ∷ (codes "bytes", 4294967295) ∷ (codes "bytes", 4294967296) ∷ (codes "bytes", 0) ∷ []) ≡ Some (settings_of unset (only_packets (Some 4194304)), []) ∷ None ∷ None ∷ Some (settings_of unset (record { packets = None; bytes = Some 4294967295; per_flow = None; by = None }), []) ∷ None ∷ None ∷ []
+unfolding many repeated unit limit_to
+limits = refl
+
+limits_per_flow : map (λ n. settings (text (codes "limit") ∷ figure n ∷ text (codes "per") ∷ text (codes "flow") ∷ [])) (0 ∷ 1 ∷ 4194304 ∷ 4194305 ∷ []) ≡ None ∷ Some (settings_of unset (record { packets = None; bytes = None; per_flow = Some 1; by = None }), []) ∷ Some (settings_of unset (record { packets = None; bytes = None; per_flow = Some 4194304; by = None }), []) ∷ None ∷ []
+unfolding many repeated unit limit_to
+limits_per_flow = refl
+
+-- `dst` after `src` belongs to the keys
+flow_groups : map keys ((text (codes "src") ∷ []) ∷ (text (codes "dst") ∷ []) ∷ (text (codes "src") ∷ text (codes "dst") ∷ []) ∷ (text (codes "dst") ∷ text (codes "src") ∷ []) ∷ (text (codes "5tuple") ∷ []) ∷ (text (codes "ports") ∷ []) ∷ []) ≡ Some (group.Source, []) ∷ Some (group.Target, []) ∷ Some (group.Hosts, []) ∷ Some (group.Target, text (codes "src") ∷ []) ∷ Some (group.FiveTuple, []) ∷ None ∷ []
+unfolding keys source_keys
+flow_groups = refl
+
+-- settings may have any order
+settings_in_any_order : settings (text (codes "flow") ∷ text (codes "by") ∷ text (codes "src") ∷ text (codes "limit") ∷ figure 9 ∷ text (codes "bytes") ∷ text (codes "weight") ∷ figure 3 ∷ text (codes "limit") ∷ figure 2 ∷ text (codes "prio") ∷ figure 1 ∷ text (codes "classes") ∷ []) ≡ Some (settings_of (record { prio = Some 1; weight = Some 3; slack = None }) (record { packets = Some 2; bytes = Some 9; per_flow = None; by = Some group.Source }), text (codes "classes") ∷ [])
+unfolding many repeated set_to unit limit_to keys source_keys flow_to
+settings_in_any_order = refl
+
+-- two limits may have different units, but each setting is given once
+settings_once : map settings ((text (codes "limit") ∷ figure 2 ∷ text (codes "limit") ∷ figure 2 ∷ text (codes "bytes") ∷ []) ∷ (text (codes "limit") ∷ figure 2 ∷ text (codes "limit") ∷ figure 2 ∷ text (codes "packets") ∷ []) ∷ (text (codes "flow") ∷ text (codes "by") ∷ text (codes "dst") ∷ text (codes "flow") ∷ text (codes "by") ∷ text (codes "dst") ∷ []) ∷ (text (codes "weight") ∷ figure 2 ∷ text (codes "weight") ∷ figure 2 ∷ []) ∷ []) ≡ Some (settings_of unset (record { packets = Some 2; bytes = Some 2; per_flow = None; by = None }), []) ∷ None ∷ None ∷ None ∷ []
+unfolding many repeated set_to unit limit_to keys source_keys flow_to
+settings_once = refl
+
+-- a limit in bytes is one of the third edition alone
+limits_in_bytes : map (λ (m : Mode). a_statement m (text (codes "leaf") ∷ text (codes "root") ∷ text (codes "using") ∷ text (codes "fifo") ∷ text (codes "limit") ∷ figure 64 ∷ text (codes "bytes") ∷ text (codes "classes") ∷ text (codes "a") ∷ [])) (Opening Third ∷ Within Classic ∷ Within Third ∷ []) ≡ None ∷ None ∷ Some (leaf (codes "root") (codes "fifo") unset (record { packets = None; bytes = Some 64; per_flow = None; by = None }) (codes "a" ∷ []), []) ∷ []
+unfolding a_statement a_form named_at leaf_rest leaf_settings_rest named_by names limit limit_by many repeated unit limit_to
+limits_in_bytes = refl
+
+-- so is a limit of a node, and a leaf may have the attributes after the limit only there
+limits_of_nodes : map (λ (m : Mode). a_statement m (text (codes "node") ∷ text (codes "root") ∷ text (codes "using") ∷ text (codes "wfq") ∷ text (codes "limit") ∷ figure 64 ∷ text (codes "weight") ∷ figure 2 ∷ text (codes "children") ∷ text (codes "a") ∷ [])) (Within Classic ∷ Within Third ∷ []) ≡ None ∷ Some (node (codes "root") (codes "wfq") (record { prio = None; weight = Some 2; slack = None }) (only_packets (Some 64)) (codes "a" ∷ []), []) ∷ []
+unfolding a_statement a_form named_at node_rest node_settings_rest named_by names many repeated set_to unit limit_to
+limits_of_nodes = refl

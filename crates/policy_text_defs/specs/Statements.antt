@@ -9,16 +9,22 @@ use Rattle.policy_text_defs.specs.declared.edition.Mode.{Mode}
 use Rattle.policy_text_defs.specs.declared.attribute.Attrs.{Attrs}
 use Rattle.policy_text_defs.specs.declared.attribute.Attribute.{Attribute}
 use Rattle.policy_text_defs.specs.declared.attribute.Attribute.TheVariants as attribute
+use Rattle.rank_defs.specs.declared.flow_group.FlowGroup.{FlowGroup}
+use Rattle.rank_defs.specs.declared.flow_group.FlowGroup.TheVariants as group
+use Rattle.policy_text_defs.specs.declared.queueing.Bound.{Bound}
+use Rattle.policy_text_defs.specs.declared.queueing.Bound.TheVariants as bound
+use Rattle.policy_text_defs.specs.declared.setting.Settings.{Settings}
 use Rattle.policy_text_defs.specs.declared.condition.FieldName.{FieldName}
 use Rattle.policy_text_defs.specs.declared.condition.FieldName.TheVariants as field_name
 use Rattle.policy_text_defs.specs.declared.condition.Condition.{Condition}
 use Rattle.policy_text_defs.specs.declared.condition.Condition.TheVariants as condition
 use Rattle.policy_text_defs.specs.Words.{is_name, attribute_word, field_word, protocol_of}
-use Rattle.policy_text_defs.specs.Ranges.{attribute_least, attribute_most, first_version, last_version, limit_least, limit_most, field_most}
+use Rattle.policy_text_defs.specs.Ranges.{attribute_least, attribute_most, first_version, last_version, limit_least, bound_most, field_most}
 use Rattle.text_core.specs.Glyphs.{Glyph, text, figure, sign}
 pub use Rattle.policy_text_defs.specs.Addresses.{Octets, AreOctets, address_of, octet_tokens, Address, whole, prefix}
 use Rattle.policy_text_defs.specs.Phrase.{Phrase}
 use Rattle.policy_text_defs.specs.Sense.{Sense, version, transaction, keep, each, push, pop, class, filter, leaf, node}
+use Rattle.policy_text_defs.specs.Settings.{no_queueing, only_packets, bound_value, settings_of, with_attrs, with_limit, with_flow}
 use Rattle.policy_text_defs.specs.Grammar.{Spells}
 use Rattle.policy_text_defs.specs.Editions.{edition_at, has_conditions, has_tests}
 use Rattle.policy_text_defs.specs.declared.test.Test.{Test}
@@ -103,15 +109,46 @@ pub record IsVersion (e : Edition) (v : ℕ) : Type 0 where
   pub above : first_version ≤ v
   pub below : v ≤ last_version e
 
--- a limit of a leaf, in packets
-pub record IsLimit (n : ℕ) : Type 0 where
+-- a limit of a leaf or node
+pub record IsLimit (b : Bound) (n : ℕ) : Type 0 where
   pub above : limit_least ≤ n
-  pub below : n ≤ limit_most
+  pub below : n ≤ bound_most b
 
 -- [limit N]
 pub data Limit : List Glyph → Option ℕ → Type 0 where
   unlimited : Limit [] None
-  limited : (n : ℕ) → IsLimit n → Limit (text (codes "limit") ∷ figure n ∷ []) (Some n)
+  limited : (n : ℕ) → IsLimit bound.Packets n → Limit (text (codes "limit") ∷ figure n ∷ []) (Some n)
+
+-- UNIT: `packets`, `bytes` or `per flow`; none means packets
+pub data BoundUnit : List Glyph → Bound → Type 0 where
+  no_unit : BoundUnit [] bound.Packets
+  packets : BoundUnit (text (codes "packets") ∷ []) bound.Packets
+  bytes : BoundUnit (text (codes "bytes") ∷ []) bound.Bytes
+  per_flow : BoundUnit (text (codes "per") ∷ text (codes "flow") ∷ []) bound.PerFlow
+
+-- KEYS: `src`, `dst`, `src dst` or `5tuple`
+pub data Keys : List Glyph → FlowGroup → Type 0 where
+  source_key : Keys (text (codes "src") ∷ []) group.Source
+  target_key : Keys (text (codes "dst") ∷ []) group.Target
+  host_keys : Keys (text (codes "src") ∷ text (codes "dst") ∷ []) group.Hosts
+  flow_keys : Keys (text (codes "5tuple") ∷ []) group.FiveTuple
+
+-- the number may be this limit, which isn't given yet
+pub record MayLimit (b : Bound) (n : ℕ) (s : Settings) : Type 0 where
+  pub unset : bound_value b s.queueing ≡ None
+  pub is : IsLimit b n
+
+-- attributes, `limit N UNIT` and `flow by KEYS`, in any order, each at most once, and none that is
+-- already given; limits of different units are different settings
+pub data SettingsFrom : Settings → List Glyph → Settings → Type 0 where
+  settled : (s : Settings) → SettingsFrom s [] s
+  attribute_setting : (k : Attribute) (n : ℕ) (ts : List Glyph) (s t : Settings) → MaySet k n s.attrs → SettingsFrom (with_attrs (with_attribute k n s.attrs) s) ts t → SettingsFrom s (text (attribute_word k) ∷ figure n ∷ ts) t
+  limit_setting : (b : Bound) (n : ℕ) (us ts : List Glyph) (s t : Settings) → BoundUnit us b → MayLimit b n s → SettingsFrom (with_limit b n s) ts t → SettingsFrom s (text (codes "limit") ∷ figure n ∷ us ++ ts) t
+  flow_setting : (g : FlowGroup) (us ts : List Glyph) (s t : Settings) → Keys us g → s.queueing.by ≡ None → SettingsFrom (with_flow g s) ts t → SettingsFrom s (text (codes "flow") ∷ text (codes "by") ∷ us ++ ts) t
+
+-- SETTINGS
+abbrev pub AreSettings : List Glyph → Settings → Type 0
+AreSettings ts s = SettingsFrom (settings_of unset no_queueing) ts s
 
 -- NAME {NAME}
 pub record AreNames (names : List (List ℕ)) : Type 0 where
@@ -128,8 +165,10 @@ pub data IsForm (e : Edition) : List Glyph → Sense → Type 0 where
   pop_form : (n : List ℕ) (ts : List Glyph) (a : Phrase) → IsName n → Spells ts a → IsForm e (text (codes "pop") ∷ text n ∷ sign m.Is ∷ ts) (pop n a)
   class_form : has_conditions e ≡ true → (n : List ℕ) (ts us : List Glyph) (a : Attrs) (cs : List Condition) → IsName n → Attributes ts a → Guard us cs → IsForm e (text (codes "class") ∷ text n ∷ ts ++ us) (class n a cs)
   filter_form : has_tests e ≡ true → (n : List ℕ) (ts us : List Glyph) (a : Attrs) (cs : List (List Test)) → IsName n → Attributes ts a → Alternatives us cs → IsForm e (text (codes "class") ∷ text n ∷ ts ++ us) (filter n a cs)
-  leaf_form : (n u : List ℕ) (ts ls : List Glyph) (a : Attrs) (l : Option ℕ) (ns : List (List ℕ)) → IsName n → IsName u → Attributes ts a → Limit ls l → AreNames ns → IsForm e (text (codes "leaf") ∷ text n ∷ text (codes "using") ∷ text u ∷ ts ++ (ls ++ text (codes "classes") ∷ map text ns)) (leaf n u a l ns)
-  node_form : (n u : List ℕ) (ts : List Glyph) (a : Attrs) (ns : List (List ℕ)) → IsName n → IsName u → Attributes ts a → AreNames ns → IsForm e (text (codes "node") ∷ text n ∷ text (codes "using") ∷ text u ∷ ts ++ text (codes "children") ∷ map text ns) (node n u a ns)
+  leaf_form : has_conditions e ≡ true → (n u : List ℕ) (ts ls : List Glyph) (a : Attrs) (l : Option ℕ) (ns : List (List ℕ)) → IsName n → IsName u → Attributes ts a → Limit ls l → AreNames ns → IsForm e (text (codes "leaf") ∷ text n ∷ text (codes "using") ∷ text u ∷ ts ++ (ls ++ text (codes "classes") ∷ map text ns)) (leaf n u a (only_packets l) ns)
+  node_form : has_conditions e ≡ true → (n u : List ℕ) (ts : List Glyph) (a : Attrs) (ns : List (List ℕ)) → IsName n → IsName u → Attributes ts a → AreNames ns → IsForm e (text (codes "node") ∷ text n ∷ text (codes "using") ∷ text u ∷ ts ++ text (codes "children") ∷ map text ns) (node n u a no_queueing ns)
+  leaf_settings_form : has_tests e ≡ true → (n u : List ℕ) (ts : List Glyph) (s : Settings) (ns : List (List ℕ)) → IsName n → IsName u → AreSettings ts s → AreNames ns → IsForm e (text (codes "leaf") ∷ text n ∷ text (codes "using") ∷ text u ∷ ts ++ text (codes "classes") ∷ map text ns) (leaf n u s.attrs s.queueing ns)
+  node_settings_form : has_tests e ≡ true → (n u : List ℕ) (ts : List Glyph) (s : Settings) (ns : List (List ℕ)) → IsName n → IsName u → AreSettings ts s → AreNames ns → IsForm e (text (codes "node") ∷ text n ∷ text (codes "using") ∷ text u ∷ ts ++ text (codes "children") ∷ map text ns) (node n u s.attrs s.queueing ns)
 
 -- the same in the edition in which the mode reads the statement, which has the names in it
 pub record IsFormAt (m : Mode) (gs : List Glyph) (s : Sense) : Type 0 where

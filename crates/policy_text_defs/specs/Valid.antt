@@ -10,6 +10,8 @@ use Rattle.policy_text_defs.specs.declared.edition.Edition.TheVariants.{Classic,
 use Rattle.policy_text_defs.specs.declared.attribute.Attrs.{Attrs}
 use Rattle.policy_text_defs.specs.declared.attribute.Attribute.{Attribute}
 use Rattle.policy_text_defs.specs.declared.attribute.Attribute.TheVariants as attribute
+use Rattle.policy_text_defs.specs.declared.queueing.Queueing.{Queueing}
+use Rattle.policy_text_defs.specs.declared.queueing.Bound.TheVariants as bound
 use Rattle.policy_text_defs.specs.declared.condition.Condition.{Condition}
 use Rattle.policy_text_defs.specs.declared.condition.Condition.TheVariants as condition
 use Rattle.policy_text_defs.specs.declared.test.Range.{Range}
@@ -62,6 +64,12 @@ pub record AreValidAttributes (a : Attrs) : Type 0 where
   pub prio : IsValidAttribute attribute.Prio a.prio
   pub weight : IsValidAttribute attribute.Weight a.weight
   pub slack : IsValidAttribute attribute.Slack a.slack
+
+-- each limit that is given is in its range
+pub record AreValidLimits (q : Queueing) : Type 0 where
+  pub packets : IfSome q.packets (IsLimit bound.Packets)
+  pub bytes : IfSome q.bytes (IsLimit bound.Bytes)
+  pub per_flow : IfSome q.per_flow (IsLimit bound.PerFlow)
 
 -- an IPv4 address and the length of its prefix
 pub record IsValidAddress (a l : ℕ) : Type 0 where
@@ -126,8 +134,8 @@ HasParts e (push n a) = (is_target n ≡ true) × IsValidPhrase a
 HasParts e (pop n a) = IsName n × IsValidPhrase a
 HasParts e (class n a cs) = IsName n × AreValidAttributes a × AllByRecursion IsValidCondition cs
 HasParts e (filter n a cs) = IsName n × AreValidAttributes a × AllByRecursion AreValidTests cs
-HasParts e (leaf n u a l ns) = IsName n × IsName u × AreValidAttributes a × IfSome l IsLimit × AreNames ns
-HasParts e (node n u a ns) = IsName n × IsName u × AreValidAttributes a × AreNames ns
+HasParts e (leaf n u a q ns) = IsName n × IsName u × AreValidAttributes a × AreValidLimits q × AreNames ns
+HasParts e (node n u a q ns) = IsName n × IsName u × AreValidAttributes a × AreValidLimits q × AreNames ns
 
 -- the statement can be written as a line of this edition
 abbrev pub IsValidIn : Edition → Sense → Type 0

@@ -12,6 +12,12 @@ use Rattle.policy_text_defs.specs.declared.keyword.Keyword.{Keyword}
 use Rattle.policy_text_defs.specs.declared.keyword.Keyword.TheVariants as keyword
 use Rattle.policy_text_defs.specs.declared.attribute.Attribute.{Attribute}
 use Rattle.policy_text_defs.specs.declared.attribute.Attribute.TheVariants as attribute
+use Rattle.rank_defs.specs.declared.flow_group.FlowGroup.{FlowGroup}
+use Rattle.rank_defs.specs.declared.flow_group.FlowGroup.TheVariants.{FiveTuple, Source, Target}
+use Rattle.policy_text_defs.specs.declared.queueing.Bound.{Bound}
+use Rattle.policy_text_defs.specs.declared.queueing.Bound.TheVariants as bound
+use Rattle.policy_text_defs.specs.declared.setting.Setting.{Setting}
+use Rattle.policy_text_defs.specs.declared.setting.Setting.TheVariants as setting
 use Rattle.policy_text_defs.specs.declared.condition.FieldName.{FieldName}
 use Rattle.policy_text_defs.specs.declared.condition.FieldName.TheVariants as field
 use Rattle.policy_text_defs.specs.declared.condition.Subject.{Subject}
@@ -127,6 +133,33 @@ attribute_of w =
     else (if bytes_eq w (codes "slack") then Some attribute.Slack
     else None))
 
+abbrev pub attribute_setting : Option Attribute → Option Setting
+attribute_setting None = None
+attribute_setting (Some k) = Some (setting.Attribute k)
+
+-- the setting of a leaf or node that a word begins
+abbrev pub setting_of : List ℕ → Option Setting
+setting_of w =
+    if bytes_eq w (codes "limit") then Some setting.Limit
+    else (if bytes_eq w (codes "flow") then Some setting.Flow
+    else attribute_setting (attribute_of w))
+
+-- what a limit counts whose unit begins with the word
+abbrev pub bound_of : List ℕ → Option Bound
+bound_of w =
+    if bytes_eq w (codes "packets") then Some bound.Packets
+    else (if bytes_eq w (codes "bytes") then Some bound.Bytes
+    else (if bytes_eq w (codes "per") then Some bound.PerFlow
+    else None))
+
+-- by what flows are told apart if the keys are this word, or begin with it
+abbrev pub group_of : List ℕ → Option FlowGroup
+group_of w =
+    if bytes_eq w (codes "src") then Some Source
+    else (if bytes_eq w (codes "dst") then Some Target
+    else (if bytes_eq w (codes "5tuple") then Some FiveTuple
+    else None))
+
 -- how a field is written
 abbrev pub field_word : FieldName → List ℕ
 field_word field.Vlan = codes "vlan"
@@ -195,6 +228,10 @@ operands = refl
 
 targets : map is_target (codes "vt" ∷ codes "rank" ∷ codes "len" ∷ codes "leaf" ∷ []) ≡ true ∷ true ∷ false ∷ false ∷ []
 targets = refl
+
+-- `by` and the units follow other words of a setting
+words_of_settings : map setting_of (codes "weight" ∷ codes "limit" ∷ codes "flow" ∷ codes "by" ∷ codes "bytes" ∷ []) ≡ Some (setting.Attribute attribute.Weight) ∷ Some setting.Limit ∷ Some setting.Flow ∷ None ∷ None ∷ []
+words_of_settings = refl
 
 numbers_of_protocols : map protocol_of (codes "tcp" ∷ codes "udp" ∷ codes "icmp" ∷ codes "TCP" ∷ codes "icmpv6" ∷ []) ≡ Some 6 ∷ Some 17 ∷ Some 1 ∷ None ∷ None ∷ []
 numbers_of_protocols = refl

@@ -67,7 +67,7 @@ fn chosen(statement: &Statement) -> Edition
         | Statement::Class(_, _, _)
         | Statement::Filter(_, _, _)
         | Statement::Leaf(_, _, _, _, _)
-        | Statement::Node(_, _, _, _) => Edition::Classic,
+        | Statement::Node(_, _, _, _, _) => Edition::Classic,
     }
 }
 

@@ -1,6 +1,7 @@
 //! The statements of a policy.
 use crate::attribute::Attrs;
 use crate::condition::Condition;
+use crate::queueing::Queueing;
 use crate::term::Term;
 use crate::test::Test;
 use list_core::{List, Name};
@@ -22,9 +23,8 @@ pub enum Statement {
     Class(Name, Attrs, List<Condition>),
     /// A class of the third edition. Each packet meets a class without alternatives.
     Filter(Name, Attrs, List<List<Test>>),
-    /// The leaf, its transaction, its attributes, its limit in packets (if it has one), and its
-    /// classes.
-    Leaf(Name, Name, Attrs, Option<u32>, List<Name>),
-    /// The node, its transaction, its attributes and its children.
-    Node(Name, Name, Attrs, List<Name>),
+    /// The leaf, its transaction, its attributes, its limits and flows, and its classes.
+    Leaf(Name, Name, Attrs, Queueing, List<Name>),
+    /// The node, its transaction, its attributes, its limits and flows, and its children.
+    Node(Name, Name, Attrs, Queueing, List<Name>),
 }

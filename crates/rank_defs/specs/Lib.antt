@@ -2,6 +2,7 @@ pub mod Formulas
 pub mod Programs
 pub mod Values
 pub mod States
+pub mod FlowGroups
 pub mod Steps
 pub mod Shapes
 pub mod Ranges

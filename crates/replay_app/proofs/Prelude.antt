@@ -68,7 +68,7 @@ pub use Rattle.replay_app.specs.Soak.{soak_line, soak_target, IsSoaked, counted,
 pub use Rattle.replay_app.specs.Stages.{watching_in, BehindPolicy, BehindRoom, BehindTarget, BehindTargetText, BehindWords}
 pub use Rattle.replay_app.specs.Statuses.{status_code, IsOneOf, IsStop, forward_status, run_status, IsRefusal, forward_statuses, kind_status, pace_statuses, paced_statuses, run_statuses}
 pub use Rattle.replay_app.specs.Targets.{IsPlacement, HasNoRoom, IsTargetOf, IsTargetRefused, IsPlanned, planned, plan_answer}
-pub use Rattle.replay_app.specs.Via.{names_of, IsMapRefused, IsTreeRefused, unread, IsTried, pair_text, HasVerdict, IsCarried, NamesNodes, Unbroken, map_refusal, pair_line}
+pub use Rattle.replay_app.specs.Via.{names_of, policy_edition, IsMapRefused, IsTreeRefused, unread, IsTried, pair_text, HasVerdict, IsCarried, NamesNodes, Unbroken, map_refusal, pair_line}
 pub use Rattle.replay_app.specs.Words.{Pacing, forward, link, replay, script, via, check, direct, no_form, plan, soak, pacing_words, AreTold, Form, named_in, texts}
 pub use Rattle.replay_app.specs.declared.refusal.Read.TheVariants.{Refused}
 pub use Rattle.replay_app.specs.declared.refusal.Refusal.{Refusal}

@@ -1,5 +1,5 @@
 -- The fault of a text is the cause of its rejection.
-use Rattle.replay_app.proofs.Prelude.{subst, ℕ, List, ◌≡◌, inr, inl, ◌≢◌, ◌⊎◌, Err, Result, Ok, IsMapAnswer, IsTreeFault, MapFault, Given, Policy, names_of, IsMapRefused, IsTreeRefused, unread}
+use Rattle.replay_app.proofs.Prelude.{subst, ℕ, List, ◌≡◌, inr, inl, ◌≢◌, ◌⊎◌, Err, Result, Ok, IsMapAnswer, IsTreeFault, MapFault, Given, Policy, Edition, names_of, policy_edition, IsMapRefused, IsTreeRefused, unread}
 use Rattle.mapcheck_core.specs.declared.fault.MapFault.TheVariants as map
 use Rattle.mapcheck_core.specs.declared.tree_fault.TreeFault.{TreeFault}
 use Rattle.mapcheck_core.specs.declared.tree_fault.TreeFault.TheVariants as tree
@@ -11,11 +11,15 @@ pub tree_refused : (text : List ℕ) (f : TreeFault) → f ≢ tree.NoMemory →
 tree_refused text f some (inl none) = absurd (some none)
 tree_refused text f some (inr is) = at_fault f is
 
-module _ (policy : Policy) (text : List ℕ) (names : List (List ℕ)) (same : names ≡ names_of policy) where
-  pub map_refused : (r : Result Given MapFault) (f : MapFault) → r ≡ Err f → f ≢ map.NoMemory → (r ≡ Err map.NoMemory) ⊎ IsMapAnswer text names r → IsMapRefused policy text (code_of f) (place_of f)
-  map_refused r f is some (inl none) = absurd (some cc)
-  map_refused r f is some (inr answer) = unread f (subst (λ (ns : List (List ℕ)). IsMapAnswer text ns (Err f)) same (subst (IsMapAnswer text names) is answer))
+-- a map that was read in the policy's edition, with the policy's names
+module _ (policy : Policy) (text : List ℕ) (edition : Edition) (written : edition ≡ policy_edition policy) (names : List (List ℕ)) (same : names ≡ names_of policy) where
+  as_defined : (r : Result Given MapFault) → IsMapAnswer edition text names r → IsMapAnswer (policy_edition policy) text (names_of policy) r
+  as_defined r answer = subst (λ (ns : List (List ℕ)). IsMapAnswer (policy_edition policy) text ns r) same (subst (λ (e : Edition). IsMapAnswer e text names r) written answer)
 
-  pub map_answer : (r : Result Given MapFault) (g : Given) → r ≡ Ok g → (r ≡ Err map.NoMemory) ⊎ IsMapAnswer text names r → IsMapAnswer text (names_of policy) (Ok g)
+  pub map_refused : (r : Result Given MapFault) (f : MapFault) → r ≡ Err f → f ≢ map.NoMemory → (r ≡ Err map.NoMemory) ⊎ IsMapAnswer edition text names r → IsMapRefused policy text (code_of f) (place_of f)
+  map_refused r f is some (inl none) = absurd (some cc)
+  map_refused r f is some (inr answer) = unread f (as_defined (Err f) (subst (IsMapAnswer edition text names) is answer))
+
+  pub map_answer : (r : Result Given MapFault) (g : Given) → r ≡ Ok g → (r ≡ Err map.NoMemory) ⊎ IsMapAnswer edition text names r → IsMapAnswer (policy_edition policy) text (names_of policy) (Ok g)
   map_answer r g is (inl none) = absurd cc
-  map_answer r g is (inr answer) = subst (λ (ns : List (List ℕ)). IsMapAnswer text ns (Ok g)) same (subst (IsMapAnswer text names) is answer)
+  map_answer r g is (inr answer) = as_defined (Ok g) (subst (IsMapAnswer edition text names) is answer)

@@ -1,6 +1,6 @@
 -- The inputs of a run along a given map: each is rejected with only one code and position, or
 -- accepted as only one value; and each is rejected or accepted.
-use Rattle.replay_app.proofs.Prelude.{subst, sym, ℕ, List, ◌≡◌, refl, ap, ◌∙◌, [], Option, Some, None, arith, inr, length, map, get_or-map, length-map, Err, Result, Ok, image_map, count, addresses, IsGivenFor, IsVerdict, image_of, Breaks, outside, prefix, root, Fits, IsMapAnswer, IsTreeText, MapFault, Given, Policy, name_at, Target, topology_of, Topology, Tree, Address, nodes, IsPlacement, HasNoRoom, names_of, IsMapRefused, IsTreeRefused, unread, IsTried, IsCarried, NamesNodes}
+use Rattle.replay_app.proofs.Prelude.{subst, sym, ℕ, List, ◌≡◌, refl, ap, ◌∙◌, [], Option, Some, None, arith, inr, length, map, get_or-map, length-map, Err, Result, Ok, image_map, count, addresses, IsGivenFor, IsVerdict, image_of, Breaks, outside, prefix, root, Fits, IsMapAnswer, IsTreeText, MapFault, Given, Policy, name_at, Target, topology_of, Topology, Tree, Address, nodes, IsPlacement, HasNoRoom, names_of, policy_edition, IsMapRefused, IsTreeRefused, unread, IsTried, IsCarried, NamesNodes}
 use Rattle.tree_defs.proofs.Shapes.{nodes-topology}
 use Rattle.embed_defs.specs.Preorder.{number_of, tree_in, HoldsImages}
 use Rattle.embed_defs.proofs.PreorderTrees.{trees_in_preorder_hold_the_images}
@@ -45,13 +45,13 @@ one-verdict s t g (Some f) (Some e) h k = ap (λ (x : MapFault). Some x) (breaks
 module _ (policy : Policy) (middle : Topology) (text : List ℕ) where
   one-map-refusal : (code place d m : ℕ) → IsMapRefused policy text code place → IsMapRefused policy text d m → (code ≡ d) × (place ≡ m)
   one-map-refusal code place d m (unread f h) (unread g k) =
-      let same : Err f ≡ Err g = IsMapAnswer-one text (names_of policy) (Err f) (Err g) h k in
+      let same : Err f ≡ Err g = IsMapAnswer-one (policy_edition policy) text (names_of policy) (Err f) (Err g) h k in
       let one : f ≡ g = cc in
       (ap code_of one, ap place_of one)
 
   same-tried : (t u : Tried) → IsTried policy middle text t → IsTried policy middle text u → t ≡ u
   same-tried t u h k =
-      let same : Ok t.given ≡ Ok u.given = IsMapAnswer-one text (names_of policy) (Ok t.given) (Ok u.given) h.read k.read in
+      let same : Ok t.given ≡ Ok u.given = IsMapAnswer-one (policy_edition policy) text (names_of policy) (Ok t.given) (Ok u.given) h.read k.read in
       let given : t.given ≡ u.given = cc in
       let fault : t.fault ≡ u.fault = one-verdict (topology_of policy.tree) middle u.given t.fault u.fault
       (subst (λ (g : Given). IsVerdict (topology_of policy.tree) middle g t.fault) given h.verdict) k.verdict in
@@ -59,19 +59,19 @@ module _ (policy : Policy) (middle : Topology) (text : List ℕ) where
 
   none-refused-map : (t : Tried) (code place : ℕ) → IsTried policy middle text t → IsMapRefused policy text code place → ⊥
   none-refused-map t code place h (unread f k) =
-      let wrong : Ok t.given ≡ Err f = IsMapAnswer-one text (names_of policy) (Ok t.given) (Err f) h.read k in
+      let wrong : Ok t.given ≡ Err f = IsMapAnswer-one (policy_edition policy) text (names_of policy) (Ok t.given) (Err f) h.read k in
       cc
 
   pub maps_are_one : AreOne (IsMapRefused policy text) (IsTried policy middle text)
   maps_are_one = record { one_refusal = one-map-refusal; one = same-tried; no_both = none-refused-map }
 
-  by_answer : ((t : Tried) → IsTried policy middle text t → ⊥) → ((code place : ℕ) → IsMapRefused policy text code place → ⊥) → (r : Result Given MapFault) → IsMapAnswer text (names_of policy) r → ⊥
+  by_answer : ((t : Tried) → IsTried policy middle text t → ⊥) → ((code place : ℕ) → IsMapRefused policy text code place → ⊥) → (r : Result Given MapFault) → IsMapAnswer (policy_edition policy) text (names_of policy) r → ⊥
   by_answer none none' (Ok g) is =
       some_verdict (topology_of policy.tree) middle g (λ v verdict. none (record { given = g; fault = v }) (record { read = is; verdict = verdict }))
   by_answer none none' (Err f) is = none' (code_of f) (place_of f) (unread f is)
 
   pub read_maps : ((t : Tried) → IsTried policy middle text t → ⊥) → ((code place : ℕ) → IsMapRefused policy text code place → ⊥) → ⊥
-  read_maps none none' = some_map text (names_of policy) (by_answer none none')
+  read_maps none none' = some_map (policy_edition policy) text (names_of policy) (by_answer none none')
 
 -- there is a name for each node
 pub names_fit : (policy : Policy) → length (names_of policy) ≡ nodes (topology_of policy.tree)
@@ -82,7 +82,7 @@ given_fits policy g fits = record { images = fits.images ∙ names_fit policy; l
 
 -- a map that is read has an image and a line number for each node
 pub map_fits : (policy : Policy) (middle : Topology) (text : List ℕ) (t : Tried) → IsTried policy middle text t → IsGivenFor (topology_of policy.tree) t.given
-map_fits policy middle text t h = given_fits policy t.given (fits_answer text (names_of policy) (Ok t.given) (inr h.read))
+map_fits policy middle text t h = given_fits policy t.given (fits_answer (policy_edition policy) text (names_of policy) (Ok t.given) (inr h.read))
 
 -- the nodes that a broken clause names exist
 pub nodes_named : (policy : Policy) (middle : Topology) (g : Given) (f : MapFault) → Breaks (topology_of policy.tree) middle g f → NamesNodes (nodes policy.tree) f

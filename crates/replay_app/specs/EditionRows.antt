@@ -1,6 +1,6 @@
 -- A policy of version 3, which a reader of versions 1 and 2 rejects.
 use Rattle.std.proofs.Common.{lit≤, ap, ◌∙◌}
-use Rattle.std.specs.Prelude.{◌≡◌, refl, ℕ, None, List, [], ◌∷◌, codes}
+use Rattle.std.specs.Prelude.{◌≡◌, refl, ℕ, List, [], ◌∷◌, codes}
 use Rattle.std.specs.Fmt.{digits}
 use Rattle.text_core.specs.Glyphs.{text, figure}
 use Rattle.text_core.specs.declared.token.TokenKind.TheVariants as k
@@ -10,8 +10,9 @@ use Rattle.policy_text.specs.declared.fault.TextFault.TheVariants as fault
 use Rattle.policy_text_defs.proofs.EditionLaws.{opening_chosen, opening_alike}
 use Rattle.policy_text_defs.proofs.TextLaws.{CarriesAt-one}
 use Rattle.policy_text_defs.specs.Editions.{chosen}
+use Rattle.policy_text_defs.specs.Settings.{no_queueing, settings_of}
 use Rattle.policy_text_defs.specs.Sense.{Sense, Entry, entry, version, filter, leaf}
-use Rattle.policy_text_defs.specs.Statements.{unset, version_form, filter_form, leaf_form, no_more, unlimited}
+use Rattle.policy_text_defs.specs.Statements.{unset, version_form, filter_form, leaf_settings_form, no_more, settled}
 use Rattle.policy_text_defs.specs.Tests.{unconditional}
 use Rattle.policy_text_defs.specs.Text.{Carries, CarriesAt, HasEntries, IsFirstFault, carried, over, here, syntax_fault}
 use Rattle.policy_text_defs.specs.declared.edition.Edition.TheVariants.{Classic, Third}
@@ -33,7 +34,7 @@ abbrev statements : List Entry
 statements =
     entry 1 (version 3)
     ∷ entry 2 (filter (codes "all") unset [])
-    ∷ entry 3 (leaf (codes "root") (codes "fifo") unset None (codes "all" ∷ []))
+    ∷ entry 3 (leaf (codes "root") (codes "fifo") unset no_queueing (codes "all" ∷ []))
     ∷ []
 
 first_is_version_3 : CarriesAt (Opening Third) first_line (version 3)
@@ -54,13 +55,13 @@ second_is_a_class = record {
   form = record { form = filter_form refl (codes "all") [] [] unset [] refl (no_more unset) unconditional; named = refl };
 }
 
-third_is_a_leaf : Carries Third (codes "leaf root using fifo classes all") (leaf (codes "root") (codes "fifo") unset None (codes "all" ∷ []))
+third_is_a_leaf : Carries Third (codes "leaf root using fifo classes all") (leaf (codes "root") (codes "fifo") unset no_queueing (codes "all" ∷ []))
 third_is_a_leaf = record {
   clean = refl;
   unshaped = refl;
   tokens = text (codes "leaf") ∷ text (codes "root") ∷ text (codes "using") ∷ text (codes "fifo") ∷ text (codes "classes") ∷ text (codes "all") ∷ [];
   says = (k.Word, 4, refl, refl, (k.Word, 4, refl, refl, (k.Word, 5, refl, refl, (k.Word, 4, refl, refl, (k.Word, 7, refl, refl, (k.Word, 3, refl, refl, refl))))));
-  form = record { form = leaf_form (codes "root") (codes "fifo") [] [] unset None (codes "all" ∷ []) refl refl (no_more unset) unlimited (record { some = lit≤ tt; each = (refl, tt) }); named = refl };
+  form = record { form = leaf_settings_form refl (codes "root") (codes "fifo") [] (settings_of unset no_queueing) (codes "all" ∷ []) refl refl (settled (settings_of unset no_queueing)) (record { some = lit≤ tt; each = (refl, tt) }); named = refl };
 }
 
 version_3_is_read : HasEntries Third policy_text statements
@@ -69,7 +70,7 @@ version_3_is_read = record {
   entries =
       carried (Opening Third) 1 first_line _ (version 3) _ first_is_version_3
       (carried (Within Third) 2 (codes "class all") _ (filter (codes "all") unset []) _ second_is_a_class
-      (carried (Within Third) 3 (codes "leaf root using fifo classes all") [] (leaf (codes "root") (codes "fifo") unset None (codes "all" ∷ [])) [] third_is_a_leaf
+      (carried (Within Third) 3 (codes "leaf root using fifo classes all") [] (leaf (codes "root") (codes "fifo") unset no_queueing (codes "all" ∷ [])) [] third_is_a_leaf
       (over (Within Third) 4)));
 }
 

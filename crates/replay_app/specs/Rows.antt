@@ -168,7 +168,7 @@ topology_of_one_leaf = record {
 abbrev root_to_root : Given
 root_to_root = record { images = [] ∷ []; lines = 1 ∷ [] }
 
-map_of_the_root : IsMapAnswer map_text (names_of one_leaf) (Ok root_to_root)
+map_of_the_root : IsMapAnswer Classic map_text (names_of one_leaf) (Ok root_to_root)
 map_of_the_root = in_form (one_line 1 (codes "root") []) (record {
   short = lit≤ tt;
   give = lines.next 1 (codes "map root -") [] (one_line 1 (codes "root") []) [] (record {

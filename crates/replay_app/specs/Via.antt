@@ -3,7 +3,11 @@ use Rattle.std.specs.Prelude.{◌≡◌, ◌<◌, refl, ℕ, List, [], ◌∷◌
 use Rattle.std.specs.Fmt.{digits}
 use Rattle.tree_defs.specs.Tree.{Tree, Address}
 use Rattle.tree_defs.specs.Topology.{Topology, topology_of}
-use Rattle.policy_defs.specs.Policy.{Policy, name_at, one_leaf}
+use Rattle.policy_defs.specs.Policy.{Policy, Node, Class, name_at, one_leaf}
+use Rattle.policy_text_defs.specs.Editions.{chosen}
+use Rattle.policy_text_defs.specs.Sense as sense
+use Rattle.policy_text_defs.specs.declared.edition.Edition.{Edition}
+use Rattle.policy_text_defs.specs.declared.edition.Edition.TheVariants.{Classic, Third}
 use Rattle.embed_defs.specs.Embedding.{IsEmbedding}
 use Rattle.embed_plan.specs.Preorder.{addresses}
 use Rattle.mapcheck_core.specs.Composition.{IsComposed}
@@ -38,15 +42,19 @@ ForTopology text after = Follows kind.Tree (IsTreeRefused text) (IsTreeText text
 abbrev pub names_of : Policy → List (List ℕ)
 names_of policy = map (name_at policy) (addresses policy.tree)
 
+-- the edition of a policy, in which its maps are read too: the one that its version chooses
+abbrev pub policy_edition : Policy → Edition
+policy_edition policy = chosen (sense.version policy.version)
+
 -- the code and position with which the text of a map of a policy's tree is rejected; the position
 -- is a line number or the number of a node
 pub data IsMapRefused (policy : Policy) (text : List ℕ) : ℕ → ℕ → Type 0 where
-  unread : (f : MapFault) → IsMapAnswer text (names_of policy) (Err f) → IsMapRefused policy text (code_of f) (place_of f)
+  unread : (f : MapFault) → IsMapAnswer (policy_edition policy) text (names_of policy) (Err f) → IsMapRefused policy text (code_of f) (place_of f)
 
 -- the text gives this map, which is an embedding of the policy's tree into the topology, or first
 -- breaks this clause of one
 pub record IsTried (policy : Policy) (middle : Topology) (text : List ℕ) (t : Tried) : Type 0 where
-  pub read : IsMapAnswer text (names_of policy) (Ok t.given)
+  pub read : IsMapAnswer (policy_edition policy) text (names_of policy) (Ok t.given)
   pub verdict : IsVerdict (topology_of policy.tree) middle t.given t.fault
 
 -- the line that names two nodes
@@ -102,6 +110,10 @@ pub record IsCarried (policy : Policy) (given : Given) (middle : Topology) (targ
 abbrev pub WithRoomAlong : Policy → Given → Topology → Target → (Laid → Answer → Type 0) → Answer → Type 0
 WithRoomAlong policy given middle target after =
     Follows kind.Size (HasNoRoom middle target) (IsCarried policy given middle target) (λ images. after (record { images = images; arities = target.arities }))
+
+-- a policy of version 1 or 2 has the classic edition, and one of version 3 the third
+editions_of_policies : (tree : Tree Node) (classes : List Class) → map (λ v. policy_edition (record { version = v; tree = tree; classes = classes })) (1 ∷ 2 ∷ 3 ∷ []) ≡ Classic ∷ Classic ∷ Third ∷ []
+editions_of_policies tree classes = refl
 
 names_of-one_leaf : names_of one_leaf ≡ codes "root" ∷ []
 names_of-one_leaf = refl

@@ -1,4 +1,5 @@
-//! Reading map files: maps of a policy's tree into a topology.
+//! Reading map files: maps of a policy's tree into a topology. A map is read in the edition of its
+//! policy.
 ghost use Rattle.std.specs.Prelude.{◌≡◌, ◌≢◌, ◌≤◌, length, IfOk, OnOk, IfSome, IsTrue, IsErrOf};
 ghost use Rattle.outside_core.specs.Faults.{Rose};
 ghost use Rattle.outside_core.specs.Kept.{KeepsShelf};
@@ -7,7 +8,7 @@ ghost use Rattle.tree_core.specs.Shape.{topology};
 ghost use Rattle.mapcheck_core.specs.GivenMaps.{IsWithinLimits, IsGivenFor, IsVerdict};
 ghost use Rattle.mapcheck_core.specs.MapFaults.{code_of, place_of};
 ghost use Rattle.replay_app.specs.Follows.{IsRead, IfAccepted};
-ghost use Rattle.replay_app.specs.Via.{HasVerdict, IsMapRefused, IsTried, names_of};
+ghost use Rattle.replay_app.specs.Via.{HasVerdict, IsMapRefused, IsTried, names_of, policy_edition};
 
 use crate::load::load_short;
 use crate::refusal::{Read, Refusal};
@@ -15,6 +16,7 @@ use list_core::{List, Name};
 use mapcheck_core::{Given, MOST_MAP_BYTES, MapFault, check_map, read_map};
 use outside_core::{Shelf, Stop};
 use policy_core::Policy;
+use policy_text::Edition;
 use std::alloc::{AllocError, Global};
 use tree_core::Topo;
 
@@ -36,6 +38,17 @@ fn told_of(fault: MapFault) -> Result<Refusal, AllocError>
             code: fault.code(),
             place: fault.place(),
         }),
+    }
+}
+
+/// Returns the edition that a policy's version chooses.
+fn policy_edition(policy: &Policy) -> Edition
+    ensures { result ≡ policy_edition policy.now.policy }
+{
+    if policy.version() <= Edition::Classic.last_version() {
+        Edition::Classic
+    } else {
+        Edition::Third
     }
 }
 
@@ -79,7 +92,7 @@ fn map_in(
         (topology middle.now))) }
 {
     let names = names_of(alloc, policy)?;
-    match read_map(alloc, text, &names) {
+    match read_map(alloc, policy_edition(policy), text, &names) {
         Ok(given) => {
             let fault = first_broken(policy.topo(), middle, &given);
             Ok(Read::Accepted(Tried { given, fault }))

@@ -1,5 +1,5 @@
 -- The policy of the tests is accepted.
-use Rattle.sched_core.proofs.Prelude.{arith, ◌≡◌, ℕ, List, length, subst, Some, [], refl, ◌∷◌, ◌≤◌, suc, zero, rules, codes, told, IsAccepted, AreMarksInRange, IsNodeReady, Node, node_at, IsShaped, Address}
+use Rattle.sched_core.proofs.Prelude.{arith, ◌≡◌, ℕ, List, length, subst, Some, [], ◌∷◌, ◌≤◌, suc, zero, rules, codes, told, IsAccepted, AreMarksInRange, IsNodeReady, Node, node_at, IsShaped, Address}
 use Rattle.rank_defs.specs.Builtins.{strict, stfq}
 use Rattle.rank_defs.specs.Checks.{IsChecked}
 use Rattle.policy_core.specs.declared.parts.Marks.{Marks}
@@ -42,5 +42,4 @@ fair-accepted = record {
   some_class = omega arith;
   levels = omega arith;
   children = (omega arith, ((omega arith, (tt, tt)), (tt, tt)));
-  limits = (refl, ((refl, (tt, tt)), (tt, tt)));
 }

@@ -1,32 +1,14 @@
 -- How many packets are at each leaf, by node number.
-use Rattle.sched_core.proofs.Prelude.{arith, ◌≡◌, ap, ◌∙◌, sym, ℕ, List, length, subst, Some, ◌<◌, [], ◌∷◌, Option, None, ◌+◌, ◌≤◌, suc, zero, ◌-◌, ◌≢◌, inl, inr, replicate, cases_eq, get_or-replicate, length-replicate, slice_get-get_or, get_or_from_slice_get, slice_get_within, option_map_or, slice_get, slice_index_or, slice_set, IsSomeAnd, slice_index, Packet, number-undone, IsNumber, address_at, HasAt, IsAccepted, number_at, Node, Policy, node_at, limit_at, get_set_other, get_set_same, leads_in, class_is_ready, IsSound, class_of, SourceState, arrival_ranks, filled, left_with, pushed, start, size-empty, SourceTree, pop, size, empty_tree, sizes, topology_of, Tree, Address, LeadsToLeaf, nodes, inner, leaf, Trees, more, none, Popping, leaf_number, AreFilled}
-use Rattle.tree_defs.specs.Queue.{Queue, take_least, take_from, Taking}
-use Rattle.tree_defs.proofs.TakeLeast.{length-put, length-rest}
-use Rattle.tree_defs.specs.Packets.{queue_at, queue_in}
+use Rattle.sched_core.proofs.Prelude.{arith, ◌≡◌, ap, ◌∙◌, sym, ℕ, List, length, subst, Some, ◌<◌, refl, Option, None, ◌+◌, ◌≤◌, ◌-◌, ◌≢◌, inl, inr, replicate, cases_eq, get_or-replicate, length-replicate, slice_get-get_or, get_or_from_slice_get, slice_get_within, option_map_or, slice_get, slice_index_or, slice_set, if◌then◌else◌, Bool, true, false, IsSomeAnd, Packet, number-undone, IsNumber, address_at, HasAt, IsAccepted, number_at, Node, Policy, node_at, get_set_other, get_set_same, class_is_ready, IsSound, class_of, SourceState, left_with, pushed, start, SourceTree, pop, size, Tree, Address, LeadsToLeaf, nodes, leaf, Popping, leaf_number, AreFilled}
+use Rattle.policy_defs.specs.declared.limits.Limits.{Limits}
+use Rattle.policy_defs.specs.Policy.{no_limits, limits_at}
+use Rattle.sched_defs.specs.Events.{CanArrive}
+use Rattle.sched_defs.specs.SourceState.{leads_over, total, one}
+use Rattle.sched_defs.proofs.Totals.{total-pushed, total-left_leaf, total-start, total-packets, leads_over-same, leads_over-leaf}
 use Rattle.tree_defs.proofs.TopologyLaws.{leaf_at}
-use Rattle.tree_defs.proofs.PacketLaws.{queue_at-push, queue_at-push_elsewhere, queue_at-pop, queue_at-pop_elsewhere}
 
--- ---- the packets at a leaf are among all packets
-mutual
-  length-queue : (t : Tree Queue) (a : Address) → length (queue_at t a) ≤ size t
-  length-queue (leaf q) [] = omega arith
-  length-queue (leaf q) (i ∷ a) = omega arith
-  length-queue (inner q ts) [] = omega arith
-  length-queue (inner q ts) (i ∷ a) = length-queue_in ts i a
-
-  length-queue_in : (ts : Trees Queue) (i : ℕ) (a : Address) → length (queue_in ts i a) ≤ sizes ts
-  length-queue_in none i a = omega arith
-  length-queue_in (more t ts) zero a = omega (arith, length-queue t a)
-  length-queue_in (more t ts) (suc i) a = omega (arith, length-queue_in ts i a)
-
--- one packet fewer
-length-taken : (q : Queue) (e : Taking) → take_least q ≡ Some e → length q ≡ length e.rest + 1
-length-taken [] e h = cc
-length-taken (x ∷ q) e h =
-    let same : take_from x.0 x.1 q ≡ e = cc in
-    let n = length-rest x.0 x.1 q in
-    let k : length (take_from x.0 x.1 q).rest ≡ length e.rest = ap (λ (z : Taking). length z.rest) same in
-    omega arith
+add_none : (n : ℕ) → n + 0 ≡ n
+add_none n = omega arith
 
 -- ---- the numbers of leaves
 leaf-numbered : (tree : Tree Node) (a : Address) → LeadsToLeaf tree a → IsNumber tree a (number_at tree a)
@@ -35,9 +17,13 @@ leaf-numbered tree a l = let there = leaf_at tree a l in number-undone tree a (l
 same-leaf : (tree : Tree Node) (a b : Address) → LeadsToLeaf tree a → LeadsToLeaf tree b → number_at tree a ≡ number_at tree b → a ≡ b
 same-leaf tree a b l m e = sym (leaf-numbered tree a l).address ∙ ap (address_at tree) e ∙ (leaf-numbered tree b m).address
 
-limit-there : (o : Option Node) (x : Option ℕ) → IsSomeAnd o (λ n. x ≡ n.limit) → x ≡ option_map_or (λ n. n.limit) o None
-limit-there None x h = absurd h
-limit-there (Some n) x h = h
+limits-there : (o : Option Node) (x : Limits) → IsSomeAnd o (λ n. x ≡ n.limits) → x ≡ option_map_or (λ n. n.limits) o no_limits
+limits-there None x h = absurd h
+limits-there (Some n) x h = h
+
+-- the limits that the node with a number has
+pub numbered-limits : (policy : Policy) (node : ℕ) (x : Limits) → HasAt policy.tree node (λ n. x ≡ n.limits) → x ≡ limits_at policy (address_at policy.tree node)
+numbered-limits policy node x h = limits-there (node_at policy.tree (address_at policy.tree node)) x h
 
 -- ---- counts of a state
 -- without packets
@@ -48,21 +34,21 @@ filled-start policy q counts n same all is = subst (λ (z : Policy). AreFilled z
     each a l =
         let k : ℕ = number_at policy.tree a in
         let within : k < n = omega (arith, (leaf-numbered policy.tree a l).within) in
-        let empty : filled (start policy) a ≡ 0 = omega (arith, length-queue (empty_tree (topology_of policy.tree)) a, size-empty (topology_of policy.tree)) in
+        let empty : total one (start policy) a ≡ 0 = total-start one a policy in
         ap (λ (cs : List ℕ). slice_get cs k) all ∙ slice_get-get_or (replicate n 0) k 0 (omega (arith, within, length-replicate {A = ℕ} n 0)) ∙ ap Some (get_or-replicate n k 0 0 within ∙ sym empty)
 
 -- another state, with another count at one leaf
-filled-set : (policy : Policy) (counts : List ℕ) (s t : SourceState) (a : Address) (n : ℕ) → LeadsToLeaf policy.tree a → AreFilled policy counts s → n ≡ filled t a
-    → ((b : Address) → b ≢ a → filled t b ≡ filled s b) → AreFilled policy (slice_set counts (number_at policy.tree a) n) t
+filled-set : (policy : Policy) (counts : List ℕ) (s t : SourceState) (a : Address) (n : ℕ) → LeadsToLeaf policy.tree a → AreFilled policy counts s → n ≡ total one t a
+    → ((b : Address) → LeadsToLeaf policy.tree b → b ≢ a → total one t b ≡ total one s b) → AreFilled policy (slice_set counts (number_at policy.tree a) n) t
 filled-set policy counts s t a n l are here elsewhere b m = elim (cases_eq (number_at policy.tree b) (number_at policy.tree a)) [
   | inl same ↦ (
       let at : b ≡ a = same-leaf policy.tree b a m l same in
       ap (slice_get (slice_set counts (number_at policy.tree a) n)) same
-      ∙ get_set_same counts (number_at policy.tree a) n (slice_get_within counts (number_at policy.tree a) (filled s a) (are a l))
-      ∙ ap Some (here ∙ ap (filled t) (sym at)))
+      ∙ get_set_same counts (number_at policy.tree a) n (slice_get_within counts (number_at policy.tree a) (total one s a) (are a l))
+      ∙ ap Some (here ∙ ap (total one t) (sym at)))
   | inr other ↦ (
       get_set_other counts (number_at policy.tree a) (number_at policy.tree b) n other
-      ∙ are b m ∙ ap Some (sym (elsewhere b (λ e. other (ap (number_at policy.tree) e)))))
+      ∙ are b m ∙ ap Some (sym (elsewhere b m (λ e. other (ap (number_at policy.tree) e)))))
 ]
 
 -- ---- the leaf of a packet's class
@@ -73,52 +59,59 @@ module _ (policy : Policy) (accepted : IsAccepted policy) (p : Packet) (within :
   pub leaf-within : (k : ℕ) → k ≡ leaf_number policy p → k < nodes policy.tree
   leaf-within k is = omega (arith, is, (leaf-numbered policy.tree (class_of policy p).leaf leads).within)
 
-  pub leaf-limit : (k : ℕ) (x : Option ℕ) → k ≡ leaf_number policy p → HasAt policy.tree k (λ n. x ≡ n.limit) → x ≡ limit_at policy (class_of policy p).leaf
-  leaf-limit k x is h =
-      let at : address_at policy.tree k ≡ (class_of policy p).leaf = ap (address_at policy.tree) is ∙ (leaf-numbered policy.tree (class_of policy p).leaf leads).address in
-      limit-there (node_at policy.tree (class_of policy p).leaf) x (subst (λ (a : Address). IsSomeAnd (node_at policy.tree a) (λ n. x ≡ n.limit)) at h)
+  pub leaf-limits : (k : ℕ) (x : Limits) → k ≡ leaf_number policy p → HasAt policy.tree k (λ n. x ≡ n.limits) → x ≡ limits_at policy (class_of policy p).leaf
+  leaf-limits k x is h =
+      numbered-limits policy k x h ∙ ap (λ (a : Address). limits_at policy a) (ap (address_at policy.tree) is ∙ (leaf-numbered policy.tree (class_of policy p).leaf leads).address)
+
+  -- another leaf isn't on the path
+  apart : (b : Address) → LeadsToLeaf policy.tree b → b ≢ (class_of policy p).leaf → leads_over b (class_of policy p).leaf ≡ false
+  apart b l other = by_test (leads_over b (class_of policy p).leaf) refl
+    where
+      by_test : (t : Bool) → leads_over b (class_of policy p).leaf ≡ t → leads_over b (class_of policy p).leaf ≡ false
+      by_test true e = absurd (other (leads_over-leaf policy.tree b (class_of policy p).leaf l leads e))
+      by_test false e = e
 
   module _ (counts : List ℕ) (s : SourceState) (are : AreFilled policy counts s) (k : ℕ) (is : k ≡ leaf_number policy p) where
-    leaf-count : slice_get counts k ≡ Some (filled s (class_of policy p).leaf)
+    leaf-count : slice_get counts k ≡ Some (total one s (class_of policy p).leaf)
     leaf-count = ap (slice_get counts) is ∙ are (class_of policy p).leaf leads
 
     pub count-within : k < length counts
-    count-within = slice_get_within counts k (filled s (class_of policy p).leaf) leaf-count
+    count-within = slice_get_within counts k (total one s (class_of policy p).leaf) leaf-count
 
     -- the count read
     module _ (n : ℕ) (read : n ≡ slice_index_or counts k n) where
-      pub count-is : n ≡ filled s (class_of policy p).leaf
-      count-is = read ∙ get_or_from_slice_get counts k (filled s (class_of policy p).leaf) n leaf-count
+      pub count-is : n ≡ total one s (class_of policy p).leaf
+      count-is = read ∙ get_or_from_slice_get counts k (total one s (class_of policy p).leaf) n leaf-count
 
       pub count-few : n ≤ size s.tree
-      count-few = omega (arith, count-is, length-queue s.tree (class_of policy p).leaf)
+      count-few = omega (arith, count-is, total-packets (class_of policy p).leaf s)
 
       -- one more after a push
-      pub filled-pushed : (q : Policy) → q ≡ policy → IsSound policy s → AreFilled q (slice_set counts k (n + 1)) (pushed policy p s)
-      filled-pushed q same sound =
+      pub filled-pushed : (q : Policy) → q ≡ policy → IsSound policy s → CanArrive policy s p → AreFilled q (slice_set counts k (n + 1)) (pushed policy p s)
+      filled-pushed q same sound can =
           let a : Address = (class_of policy p).leaf in
-          let ranks : List ℕ = arrival_ranks policy p s in
-          let to : LeadsToLeaf s.tree a = leads_in policy accepted s sound p within in
-          let here : n + 1 ≡ filled (pushed policy p s) a = omega (arith, count-is, ap (λ (w : Queue). length w) (queue_at-push s.tree a ranks p.number to), length-put (queue_at s.tree a) (slice_index ranks (length a)) p.number) in
+          let grown : (b : Address) (t : Bool) → leads_over b a ≡ t → total one (pushed policy p s) b ≡ total one s b + (if t then 1 else 0)
+          = λ b t e. total-pushed one b policy p s accepted sound can ∙ ap (λ (u : Bool). total one s b + (if u then 1 else 0)) e in
+          let here : n + 1 ≡ total one (pushed policy p s) a = omega (arith, count-is, grown a true (leads_over-same a)) in
           let each : AreFilled policy (slice_set counts (number_at policy.tree a) (n + 1)) (pushed policy p s)
-          = filled-set policy counts s (pushed policy p s) a (n + 1) leads are here (λ b other. ap (λ (w : Queue). length w) (queue_at-push_elsewhere s.tree a ranks p.number b to other)) in
+          = filled-set policy counts s (pushed policy p s) a (n + 1) leads are here (λ b l other. grown b false (apart b l other) ∙ add_none (total one s b)) in
           subst (λ (z : Policy). AreFilled z (slice_set counts k (n + 1)) (pushed policy p s)) (sym same)
           (subst (λ (j : ℕ). AreFilled policy (slice_set counts j (n + 1)) (pushed policy p s)) (sym is) each)
 
-      -- the packet popped next is at the leaf
-      module _ (taken : Popping SourceTree) (popped : pop s.tree ≡ Some taken) (from : taken.digits ≡ (class_of policy p).leaf) where
-        one-fewer : length (queue_at s.tree (class_of policy p).leaf) ≡ length (queue_at taken.left (class_of policy p).leaf) + 1
-        one-fewer = subst (λ (a : Address). length (queue_at s.tree a) ≡ length (queue_at taken.left a) + 1) from (length-taken (queue_at s.tree taken.digits) _ (queue_at-pop s.tree taken popped))
+      -- the packet is popped next
+      module _ (taken : Popping SourceTree) (sound : IsSound policy s) (popped : pop s.tree ≡ Some taken) (held : s.held taken.value ≡ Some p) where
+        shrunk : (b : Address) (t : Bool) → leads_over b (class_of policy p).leaf ≡ t → total one s b ≡ total one (left_with policy s taken (Some p)) b + (if t then 1 else 0)
+        shrunk b t e = total-left_leaf one b policy s taken p sound popped held ∙ ap (λ (u : Bool). total one (left_with policy s taken (Some p)) b + (if u then 1 else 0)) e
 
         pub count-some : 1 ≤ n
-        count-some = omega (arith, count-is, one-fewer)
+        count-some = omega (arith, count-is, shrunk (class_of policy p).leaf true (leads_over-same (class_of policy p).leaf))
 
         -- one fewer after a pop
         pub filled-left : (q : Policy) → q ≡ policy → AreFilled q (slice_set counts k (n - 1)) (left_with policy s taken (Some p))
         filled-left q same =
             let a : Address = (class_of policy p).leaf in
-            let here : n - 1 ≡ filled (left_with policy s taken (Some p)) a = omega (arith, count-is, one-fewer) in
+            let here : n - 1 ≡ total one (left_with policy s taken (Some p)) a = omega (arith, count-is, shrunk a true (leads_over-same a)) in
             let each : AreFilled policy (slice_set counts (number_at policy.tree a) (n - 1)) (left_with policy s taken (Some p))
-            = filled-set policy counts s (left_with policy s taken (Some p)) a (n - 1) leads are here (λ b other. ap (λ (w : Queue). length w) (queue_at-pop_elsewhere s.tree taken b popped (λ e. other (e ∙ from)))) in
+            = filled-set policy counts s (left_with policy s taken (Some p)) a (n - 1) leads are here (λ b l other. sym (shrunk b false (apart b l other) ∙ add_none (total one (left_with policy s taken (Some p)) b))) in
             subst (λ (z : Policy). AreFilled z (slice_set counts k (n - 1)) (left_with policy s taken (Some p))) (sym same)
             (subst (λ (j : ℕ). AreFilled policy (slice_set counts j (n - 1)) (left_with policy s taken (Some p))) (sym is) each)

@@ -4,7 +4,6 @@ pub mod ChunkLaws
 pub mod NumberLaws
 pub mod HeldNumbers
 pub mod LeafNumbers
-pub mod Filling
 pub mod PoppedPackets
 pub mod TreeParts
 pub mod StateUpdates
@@ -18,5 +17,12 @@ pub mod ClassLeaves
 pub mod ChildCounts
 pub mod RoomLaws
 pub mod FirstStates
+pub mod GroupLaws
 pub mod RootWays
+pub mod Filling
+pub mod FlowCounts
+pub mod Prefixes
+pub mod TotalsLaws
+pub mod LimitLaws
+pub mod FirstTotals
 pub mod FairPolicy

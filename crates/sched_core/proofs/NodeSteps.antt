@@ -1,7 +1,11 @@
 -- A step of one node on the path.
-use Rattle.sched_core.proofs.Prelude.{arith, ◌≡◌, ap, ◌∙◌, sym, ℕ, List, length, subst, Some, ◌<◌, [], refl, ◌∷◌, ◌≤◌, ◌++◌, ◌↔◌, append-nil, drop_all, take-append-drop, slice_get-get_or, slice_get, slice_index_or, slice_set, slice_index, address_at, told, AreMarksInRange, Node, IsForm, RunAs, HasRoom, state_of, children_of, NodeState, same-trans, after_pop-same, after_push-same, push_step-same, max_rank, Program, IsStateInRange, SameState, State, after_push, after_pop, push_rank, Env, Who, Child, Flow, Visit, States, after_pops, after_pushes, env_for, rank_at, with_state, Tree, Address, LeadsToLeaf, inner, leaf, subtree, part_at, HaveValues, AreStations, HasRoomAt, IsStationOf, Keeps, marks_on, rank_told, IsWaypoint, tree_for, class_for, IsReady, ForValues, KeepsRoom, stop, ahead, part, place, who_on, HasRoomAtLeaf, ValuesBecome, PacketPath, PathNode}
+use Rattle.sched_core.proofs.Prelude.{arith, ◌≡◌, ap, ◌∙◌, sym, ℕ, List, length, subst, Some, ◌<◌, [], refl, ◌∷◌, ◌≤◌, ◌++◌, ◌↔◌, append-nil, drop_all, take-append-drop, slice_get-get_or, slice_get, slice_index_or, slice_set, slice_index, address_at, told, AreMarksInRange, Node, IsForm, RunAs, HasRoom, state_of, children_of, NodeState, same-trans, after_pop-same, after_push-same, push_step-same, max_rank, Program, IsStateInRange, SameState, State, after_push, after_pop, push_rank, Env, Who, Child, Flow, Visit, States, after_pops, after_pushes, env_for, rank_at, with_state, Tree, Address, LeadsToLeaf, inner, leaf, root_of, Option, option_map_or, subtree, part_at, HaveValues, AreStations, HasRoomAt, IsStationOf, Keeps, marks_on, rank_told, IsWaypoint, tree_for, class_for, IsReady, ForValues, KeepsRoom, stop, ahead, part, place, who_on, HasRoomAtLeaf, ValuesBecome, PacketPath, PathNode}
+use Rattle.rank_defs.specs.declared.environment.FlowKey.{FlowKey}
+use Rattle.rank_defs.specs.declared.flow_group.FlowGroup.{FlowGroup}
+use Rattle.rank_defs.specs.declared.flow_group.FlowGroup.TheVariants.{FiveTuple}
+use Rattle.rank_defs.specs.FlowGroups.{grouped}
 use Rattle.rank_core.specs.declared.form.Form.TheVariants.{Empty}
-use Rattle.policy_defs.specs.Policy.{Class, Marks}
+use Rattle.policy_defs.specs.Policy.{Class, Marks, group_at}
 use Rattle.sched_core.proofs.TreeParts.{IsNext, next, node-of_part, part-down}
 use Rattle.sched_core.proofs.Levels.{there-at, leads-at, number-of, ahead-next}
 use Rattle.sched_core.proofs.RanksTold.{told-low, told-rank, told-after, no_lines-after}
@@ -47,11 +51,14 @@ module _ {e : PacketPath} {digits : List ℕ} {level : ℕ} (ready : IsReady e) 
   pub child-at : level < length digits → Child (slice_index_or digits level 0) ≡ (stop e level).who
   child-at low =
       ap (λ (ds : List ℕ). Child (slice_index_or ds level 0)) to
-      ∙ ap (λ (ds : List ℕ). who_on ds e.packet.now) (sym (ahead-next (tree_for e) (class_for e).leaf ready.leads level (omega (arith, low, ap length to))))
+      ∙ ap (λ (ds : List ℕ). who_on (root_of (part e level)).group ds e.packet.now) (sym (ahead-next (tree_for e) (class_for e).leaf ready.leads level (omega (arith, low, ap length to))))
 
-  -- and at the leaf for the packet's flow
-  pub flow-at : length digits ≤ level → Flow e.packet.now.flow ≡ (stop e level).who
-  flow-at high = ap (λ (ds : List ℕ). who_on ds e.packet.now) (sym (drop_all level (class_for e).leaf (omega (arith, high, ap length to))))
+  -- and at the leaf for the packet's flow, grouped as the leaf says
+  pub flow-at : {s : PathNode} {key : FlowKey} → IsWaypoint (tree_for e) (class_for e) level s → length digits ≤ level → key ≡ grouped s.group e.packet.now.flow → Flow key ≡ (stop e level).who
+  flow-at waypoint high is =
+      ap Flow is
+      ∙ ap (λ (g : FlowGroup). Flow (grouped g e.packet.now.flow)) waypoint.group
+      ∙ ap (λ (ds : List ℕ). who_on (root_of (part e level)).group ds e.packet.now) (sym (drop_all level (class_for e).leaf (omega (arith, high, ap length to))))
 
 -- ---- the node at a level
 module _ {e : PacketPath} {level : ℕ} {s : PathNode} {states : List NodeState} (h : IsHere e level s states) where
@@ -140,10 +147,13 @@ module _ {e : PacketPath} {level : ℕ} {s : PathNode} {states : List NodeState}
   pub in_range-here : IsStateInRange p (state_of x)
   in_range-here = subst (λ (q : Program). IsStateInRange q (state_of x)) (sym made.program) station.in_range
 
-  room-on : (digits : List ℕ) → ahead e level ≡ digits → HasRoomAtLeaf e states → HasRoom x (who_on digits e.packet.now)
+  room-on : (digits : List ℕ) → ahead e level ≡ digits → HasRoomAtLeaf e states → HasRoom x (who_on (root_of (part e level)).group digits e.packet.now)
   room-on [] is room =
       let whole : (class_for e).leaf ≡ place e level = sym (take-append-drop level (class_for e).leaf) ∙ ap (λ (ds : List ℕ). place e level ++ ds) is ∙ append-nil (place e level) in
-      subst (λ (a : Address). HasRoomAt (tree_for e) states a (Flow e.packet.now.flow)) whole room x keeps-here
+      let group : group_at e.policy.now.policy (class_for e).leaf ≡ (root_of (part e level)).group
+      = ap (group_at e.policy.now.policy) whole ∙ ap (λ (o : Option Node). option_map_or (λ n. n.group) o FiveTuple) (node-of_part (tree_for e) (place e level) (part e level) (there made.here)) in
+      subst (λ (g : FlowGroup). HasRoom x (Flow (grouped g e.packet.now.flow))) group
+      (subst (λ (a : Address). HasRoomAt (tree_for e) states a (Flow (grouped (group_at e.policy.now.policy (class_for e).leaf) e.packet.now.flow))) whole room x keeps-here)
   room-on (i ∷ digits) is room = station.room i (next-on made.here i digits is).within
 
   pub room-here : HasRoomAtLeaf e states → HasRoom x w

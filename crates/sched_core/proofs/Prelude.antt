@@ -17,7 +17,7 @@ pub use Rattle.policy_core.specs.Numbering.{address_at, HasAt}
 pub use Rattle.policy_core.specs.Parts.{class_in, told}
 pub use Rattle.policy_defs.specs.Accepted.{IsAccepted, AreMarksInRange, IsClassReady, HasFewChildren, HaveFewChildren, IsNodeReady}
 pub use Rattle.policy_defs.specs.Numbers.{number_at}
-pub use Rattle.policy_defs.specs.Policy.{Node, Policy, node_at, no_marks, limit_at, node_below}
+pub use Rattle.policy_defs.specs.Policy.{Node, Policy, node_at, no_marks, node_below}
 pub use Rattle.rank_core.proofs.Lists.{refilled, get_set_other, get_set_same}
 pub use Rattle.rank_core.specs.Forms.{IsForm, RunAs}
 pub use Rattle.rank_core.specs.Node.{HasRoom, state_of, BelongsTo, children_of}
@@ -34,7 +34,7 @@ pub use Rattle.sched_defs.proofs.Soundness.{leads_in, class_is_ready, popped_is_
 pub use Rattle.sched_defs.proofs.Visits.{class_ready}
 pub use Rattle.sched_defs.specs.Laws.{LeavesItsLeaf}
 pub use Rattle.sched_defs.specs.Sound.{IsSound, IsAtItsLeaf, IsKnown}
-pub use Rattle.sched_defs.specs.SourceState.{class_of, SourceState, arrival_ranks, filled, leaver, left_with, way_in, way_out, departed, first_states, is_reached, leaving, no_state, pushed, start}
+pub use Rattle.sched_defs.specs.SourceState.{class_of, SourceState, arrival_ranks, leaver, left_with, way_in, way_out, departed, first_states, leaving, no_state, pushed, start}
 pub use Rattle.sched_defs.specs.Visits.{Visit, States, after_pops, after_pushes, env_for, ranks_pushed, visits_from, rank_at, with_state, visit, visits_below, child_marks}
 pub use Rattle.tree_core.specs.Shape.{topology}
 pub use Rattle.tree_defs.proofs.WellFormedLaws.{size-empty, size-pop, size-push}

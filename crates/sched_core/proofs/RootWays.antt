@@ -14,7 +14,7 @@ module _ (policy : Policy) (p : Packet) (known : IsKnown policy p) where
       let there : slice_get policy.classes p.class ≡ Some (get_or policy.classes p.class no_class) = slice_get-get_or policy.classes p.class no_class known.class in
       there ∙ ap Some (sym (ap (λ (o : Option Class). unwrap_or o no_class) there))
 
-  waypoints-there : (ways : List (Vec PathNode Global)) (w : Vec PathNode Global) → AreWays policy ways → w ≡ get_or ways p.class w → AreWaypoints policy.tree (class_of policy p) w.items
+  pub waypoints-there : (ways : List (Vec PathNode Global)) (w : Vec PathNode Global) → AreWays policy ways → w ≡ get_or ways p.class w → AreWaypoints policy.tree (class_of policy p) w.items
   waypoints-there ways w h is = h.each p.class (class_of policy p) w class-there (slice_get-get_or ways p.class w (omega (arith, known.class, h.count)) ∙ ap Some (sym is))
 
 pub ready : (e : PacketPath) → class_for e ≡ class_of e.policy.now.policy e.packet.now → IsAccepted e.policy.now.policy → IsKnown e.policy.now.policy e.packet.now → e.moment ≤ max_rank
@@ -38,7 +38,7 @@ module _ (tree : Tree Node) where
       ap (λ (t : Tree Node). visits_from t [] c.leaf c p moment) (part-known tree [] tree (root-part tree))
       ∙ ap (λ (k : Class). visits_from tree [] k.leaf k p moment) is
 
-  pub room-at_leaf : (states start : List NodeState) (c d : Class) (who : Who) → start ≡ states → c ≡ d → HasRoomAt tree states d.leaf who → HasRoomAt tree start c.leaf who
+  pub room-at_leaf : (states start : List NodeState) (c d : Class) (who : Class → Who) → start ≡ states → c ≡ d → HasRoomAt tree states d.leaf (who d) → HasRoomAt tree start c.leaf (who c)
   room-at_leaf states start c d who same is room =
-      subst (λ (k : Class). HasRoomAt tree start k.leaf who) (sym is)
-      (subst (λ (l : List NodeState). HasRoomAt tree l d.leaf who) (sym same) room)
+      subst (λ (k : Class). HasRoomAt tree start k.leaf (who k)) (sym is)
+      (subst (λ (l : List NodeState). HasRoomAt tree l d.leaf (who d)) (sym same) room)

@@ -1,5 +1,6 @@
 -- Parts of a tree, and the child to which a path leads next.
 use Rattle.sched_core.proofs.Prelude.{arith, ◌≡◌, ap, ◌∙◌, sym, ℕ, List, length, subst, Some, ◌<◌, [], refl, ◌∷◌, Option, suc, zero, ◌++◌, take, drop, ◌-◌, take_all, unwrap_or, IsSomeAnd, Packet, Node, node_at, node_below, BelongsTo, Child, Flow, Visit, env_for, visits_from, visit, visits_below, child_marks, Tree, Address, LeadsToLeaf, inner, leaf, subtree, IsAddressOf, Trees, more, none, root_of, subtree_in, LeadsBelow, count_of, part_at, arity, marks_on}
+use Rattle.rank_defs.specs.FlowGroups.{grouped}
 use Rattle.policy_defs.specs.Policy.{Class}
 
 pub some-is : {X : Type 0} {x y : X} → Some x ≡ Some y → x ≡ y
@@ -87,6 +88,6 @@ next (inner n ts) i digits l =
     }
 
 -- and at a leaf the path ends
-pub ends : (t : Tree Node) (a : Address) (c : Class) (p : Packet) (moment : ℕ) → LeadsToLeaf t [] → visits_from t a [] c p moment ≡ visit a (root_of t).program (Flow p.flow) (env_for p moment (marks_on t [] c)) ∷ []
+pub ends : (t : Tree Node) (a : Address) (c : Class) (p : Packet) (moment : ℕ) → LeadsToLeaf t [] → visits_from t a [] c p moment ≡ visit a (root_of t).program (Flow (grouped (root_of t).group p.flow)) (env_for p moment (marks_on t [] c)) ∷ []
 ends (leaf n) a c p moment l = refl
 ends (inner n ts) a c p moment l = absurd l

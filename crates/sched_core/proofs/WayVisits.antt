@@ -47,12 +47,12 @@ module _ (e : PacketPath) (ready : IsReady e) where
     way-next =
         let n = next-at (tree_for e) digits ready.leads level h in
         let step : visits_from (part e level) (place e level) (i ∷ ahead e (level + 1)) (class_for e) e.packet.now e.moment
-        ≡ visit (place e level) (root_of (part e level)).program (who_on (i ∷ ahead e (level + 1)) e.packet.now) (env_for e.packet.now e.moment (marks_on (part e level) (i ∷ ahead e (level + 1)) (class_for e))) ∷ way e (level + 1)
+        ≡ visit (place e level) (root_of (part e level)).program (who_on (root_of (part e level)).group (i ∷ ahead e (level + 1)) e.packet.now) (env_for e.packet.now e.moment (marks_on (part e level) (i ∷ ahead e (level + 1)) (class_for e))) ∷ way e (level + 1)
         = n.visits (place e level) (class_for e) e.packet.now e.moment
-        ∙ ap (λ (t : Tree Node). visit (place e level) (root_of (part e level)).program (who_on (i ∷ ahead e (level + 1)) e.packet.now) (env_for e.packet.now e.moment (marks_on (part e level) (i ∷ ahead e (level + 1)) (class_for e))) ∷ visits_from t (place e level ++ i ∷ []) (ahead e (level + 1)) (class_for e) e.packet.now e.moment) (sym (part-next (tree_for e) digits ready.leads level h))
-        ∙ ap (λ (a : Address). visit (place e level) (root_of (part e level)).program (who_on (i ∷ ahead e (level + 1)) e.packet.now) (env_for e.packet.now e.moment (marks_on (part e level) (i ∷ ahead e (level + 1)) (class_for e))) ∷ visits_from (part e (level + 1)) a (ahead e (level + 1)) (class_for e) e.packet.now e.moment) (sym (place-next (tree_for e) digits ready.leads level h)) in
+        ∙ ap (λ (t : Tree Node). visit (place e level) (root_of (part e level)).program (who_on (root_of (part e level)).group (i ∷ ahead e (level + 1)) e.packet.now) (env_for e.packet.now e.moment (marks_on (part e level) (i ∷ ahead e (level + 1)) (class_for e))) ∷ visits_from t (place e level ++ i ∷ []) (ahead e (level + 1)) (class_for e) e.packet.now e.moment) (sym (part-next (tree_for e) digits ready.leads level h))
+        ∙ ap (λ (a : Address). visit (place e level) (root_of (part e level)).program (who_on (root_of (part e level)).group (i ∷ ahead e (level + 1)) e.packet.now) (env_for e.packet.now e.moment (marks_on (part e level) (i ∷ ahead e (level + 1)) (class_for e))) ∷ visits_from (part e (level + 1)) a (ahead e (level + 1)) (class_for e) e.packet.now e.moment) (sym (place-next (tree_for e) digits ready.leads level h)) in
         subst (λ (ds : List ℕ). visits_from (part e level) (place e level) ds (class_for e) e.packet.now e.moment
-        ≡ visit (place e level) (root_of (part e level)).program (who_on ds e.packet.now) (env_for e.packet.now e.moment (marks_on (part e level) ds (class_for e))) ∷ way e (level + 1))
+        ≡ visit (place e level) (root_of (part e level)).program (who_on (root_of (part e level)).group ds e.packet.now) (env_for e.packet.now e.moment (marks_on (part e level) ds (class_for e))) ∷ way e (level + 1))
         (sym (ahead-next (tree_for e) digits ready.leads level h)) step
 
     -- the ranks below are the ones from before the step here
@@ -69,5 +69,5 @@ module _ (e : PacketPath) (ready : IsReady e) where
       let none : ahead e level ≡ [] = drop_all level digits (omega (arith, is)) in
       let leads : LeadsToLeaf (part e level) [] = subst (LeadsToLeaf (part e level)) none (leads-at (tree_for e) digits ready.leads level (omega (arith, is))) in
       subst (λ (ds : List ℕ). visits_from (part e level) (place e level) ds (class_for e) e.packet.now e.moment
-      ≡ visit (place e level) (root_of (part e level)).program (who_on ds e.packet.now) (env_for e.packet.now e.moment (marks_on (part e level) ds (class_for e))) ∷ [])
+      ≡ visit (place e level) (root_of (part e level)).program (who_on (root_of (part e level)).group ds e.packet.now) (env_for e.packet.now e.moment (marks_on (part e level) ds (class_for e))) ∷ [])
       (sym none) (ends (part e level) (place e level) (class_for e) e.packet.now e.moment leads)

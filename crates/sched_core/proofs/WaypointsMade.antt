@@ -1,5 +1,5 @@
 -- The nodes on the paths of classes, taken from a policy one after another.
-use Rattle.sched_core.proofs.Prelude.{arith, ◌≡◌, ap, ◌∙◌, sym, ℕ, List, length, subst, Some, ◌<◌, [], refl, ◌∷◌, None, ◌+◌, ◌≤◌, get_or, suc, zero, ◌++◌, take, drop, map, length-append, drop_all, slice_get-get_or, slice_get-map, AllByRecursion, slice_get, slice_index_or, Vec, option_map, Global, address_at, HasAt, class_in, told, IsAccepted, IsClassReady, number_at, Node, Policy, node_at, IsForm, Tree, Address, LeadsToLeaf, nodes, inner, leaf, IsAddressOf, part_at, marks_on, AreWaypoints, rank_told, IsWaypoint, PathNode}
+use Rattle.sched_core.proofs.Prelude.{arith, ◌≡◌, ap, ◌∙◌, sym, ℕ, List, length, subst, Some, ◌<◌, [], refl, ◌∷◌, None, ◌+◌, ◌≤◌, get_or, suc, zero, ◌++◌, take, drop, map, length-append, drop_all, slice_get-get_or, slice_get-map, AllByRecursion, slice_get, slice_index_or, Vec, option_map, Global, address_at, HasAt, class_in, told, IsAccepted, IsClassReady, number_at, Node, Policy, node_at, IsForm, Tree, Address, LeadsToLeaf, nodes, inner, leaf, root_of, IsAddressOf, part_at, marks_on, AreWaypoints, rank_told, IsWaypoint, PathNode}
 use Rattle.policy_defs.specs.Policy.{Class as Aimed, Marks as Told}
 use Rattle.policy_core.specs.declared.parts.Class.{Class}
 use Rattle.policy_core.specs.declared.parts.Marks.{Marks}
@@ -51,13 +51,17 @@ module _ {tree : Tree Node} {c : Aimed} {level : ℕ} {node : ℕ} (r : IsReache
   back : address_at tree node ≡ take level c.leaf
   back = ap (address_at tree) r.number ∙ (number-of tree c.leaf r.leads level r.short).address
 
+  node-there : node_at tree (address_at tree node) ≡ Some (root_of (part_at tree (take level c.leaf)))
+  node-there = ap (node_at tree) back ∙ node-of_part tree (take level c.leaf) (part_at tree (take level c.leaf)) (there-at tree c.leaf r.leads level r.short)
+
   -- the entry for it
-  pub waypoint-made : {s : PathNode} {m : Marks} → s.node ≡ node → HasAt tree node (λ n. s.checked.now ≡ n.program) → s.marks ≡ m → s.told ≡ rank_told s.checked.now.push (told m)
+  pub waypoint-made : {s : PathNode} {m : Marks} → s.node ≡ node → HasAt tree node (λ n. s.checked.now ≡ n.program) → HasAt tree node (λ n. s.group ≡ n.group) → s.marks ≡ m → s.told ≡ rank_told s.checked.now.push (told m)
       → IsForm s.checked.now s.checked.now.push s.push → IsForm s.checked.now s.checked.now.pop s.pop
       → told m ≡ marks_on (part_at tree (take level c.leaf)) (drop level c.leaf) c → IsWaypoint tree c level s
-  waypoint-made {s} is-node program marks rank push pop on = record {
+  waypoint-made {s} is-node program group marks rank push pop on = record {
     node = is-node ∙ r.number;
-    program = some-and _ _ (λ n. s.checked.now ≡ n.program) (ap (node_at tree) back ∙ node-of_part tree (take level c.leaf) (part_at tree (take level c.leaf)) (there-at tree c.leaf r.leads level r.short)) program;
+    program = some-and _ _ (λ n. s.checked.now ≡ n.program) node-there program;
+    group = some-and _ _ (λ n. s.group ≡ n.group) node-there group;
     marks = ap told marks ∙ on;
     rank = rank ∙ ap (λ (k : Marks). rank_told s.checked.now.push (told k)) (sym marks);
     push_form = push;

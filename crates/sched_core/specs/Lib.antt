@@ -7,10 +7,13 @@ pub mod Origins
 pub mod Spills
 pub mod Arrivals
 pub mod Departures
+pub mod NodeTotals
+pub mod Totals
 pub mod PolicyState
 pub mod Direct
 pub mod Kept
 pub mod Waypoints
 pub mod Ways
+pub mod Groups
 pub mod Agreement
 pub mod Samples

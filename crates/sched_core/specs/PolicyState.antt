@@ -4,10 +4,11 @@ use Rattle.tree_defs.specs.Tree.{Address, LeadsToLeaf}
 use Rattle.tree_defs.specs.SourceTree.{SourceTree, pop, size}
 use Rattle.policy_defs.specs.Policy.{Policy}
 use Rattle.policy_defs.specs.Numbers.{number_at}
-use Rattle.sched_defs.specs.SourceState.{SourceState, filled}
+use Rattle.sched_defs.specs.SourceState.{SourceState, total, one}
 use Rattle.sched_core.specs.Agreement.{policy_of, AreStates}
 use Rattle.sched_core.specs.declared.policy_state.PolicyState.{PolicyState}
 use Rattle.sched_core.specs.Held.{held_at}
+use Rattle.sched_core.specs.Totals.{AreKept, amounts_in}
 use Rattle.sched_core.specs.Standing.{StandForOne, ForEachState}
 
 abbrev pub policy_in : PolicyState → Policy
@@ -15,14 +16,16 @@ policy_in own = policy_of own.stations
 
 -- at the number of each leaf, how many packets are in it
 abbrev pub AreFilled : Policy → List ℕ → SourceState → Type 0
-AreFilled policy counts s = (a : Address) → LeadsToLeaf policy.tree a → slice_get counts (number_at policy.tree a) ≡ Some (filled s a)
+AreFilled policy counts s = (a : Address) → LeadsToLeaf policy.tree a → slice_get counts (number_at policy.tree a) ≡ Some (total one s a)
 
--- The variables, the queued packets, how many of them are at each leaf, and the latest timestamp
--- (`moment`) are those of the state. No more packets are queued than were pushed.
+-- The variables, the queued packets, how many of them are at each leaf, how much is at each node if
+-- limits need it, and the latest timestamp (`moment`) are those of the state. No more packets are
+-- queued than were pushed.
 pub record IsOwn (own : PolicyState) (s : SourceState) : Type 0 where
   pub nodes : AreStates own.stations s.nodes
   pub held : (n : ℕ) → held_at own.held n ≡ s.held n
   pub filled : AreFilled (policy_in own) own.filled.items s
+  pub totals : AreKept (policy_in own) own.totals (amounts_in (policy_in own) s)
   pub few : size s.tree ≤ own.pushes
   pub now : s.now ≡ own.moment
 

@@ -1,12 +1,14 @@
 -- The nodes on the paths of a policy's classes, as the code has them.
 use Rattle.std.specs.Prelude.{◌≡◌, ◌+◌, ℕ, List, [], ◌∷◌, Option, Some, None, length, slice_get, take, drop, Vec}
-use Rattle.std.specs.Coded.{Coded-set, coded_ℕ, coded_option}
+use Rattle.std.specs.Coded.{Coded, Coded-set, coded_ℕ, coded_option}
 use Rattle.std.specs.declared.alloc.Global.{Global}
 use Rattle.tree_defs.specs.Tree.{Tree, leaf, inner, root_of}
 use Rattle.rank_defs.specs.declared.expression.Var.TheVariants.{Prio, Weight, Slack}
 use Rattle.rank_defs.specs.declared.transaction.Aim.{Aim}
 use Rattle.rank_defs.specs.declared.transaction.Aim.TheVariants.{Rank}
 use Rattle.rank_defs.specs.Formulas.{Formula, variable}
+use Rattle.rank_defs.specs.declared.flow_group.FlowGroup.{FlowGroup}
+use Rattle.rank_defs.specs.contracts.flow_group.FlowGroup as group_row
 use Rattle.rank_defs.specs.Programs.{Assignment}
 use Rattle.rank_core.specs.Forms.{IsForm, IsForm-prop}
 use Rattle.range_core.specs.Codes.{program_code}
@@ -38,10 +40,15 @@ rank_told [] m = Some 0
 rank_told (a ∷ []) m = mark_told a.aim a.formula m
 rank_told (a ∷ b ∷ rest) m = None
 
+-- how a group is stored as a ghost value
+abbrev pub group_code : Coded FlowGroup
+group_code = group_row.the_row.coded
+
 -- the entry for the node at a level of a class's path; the root's level is 0
 pub record IsWaypoint (tree : Tree Node) (c : Class) (level : ℕ) (s : PathNode) : Type 0 where
   pub node : s.node ≡ number_at tree (take level c.leaf)
   pub program : s.checked.now ≡ (root_of (part_at tree (take level c.leaf))).program
+  pub group : s.group ≡ (root_of (part_at tree (take level c.leaf))).group
   pub marks : told s.marks ≡ marks_on (part_at tree (take level c.leaf)) (drop level c.leaf) c
   pub rank : s.told ≡ rank_told s.checked.now.push (told s.marks)
   pub push_form : IsForm s.checked.now s.checked.now.push s.push
@@ -61,6 +68,7 @@ IsWaypoint-prop : (tree : Tree Node) (c : Class) (level : ℕ) (s : PathNode) �
 IsWaypoint-prop tree c level s a b i = record {
   node = Coded-set coded_ℕ _ _ a.node b.node i;
   program = Coded-set program_code _ _ a.program b.program i;
+  group = Coded-set group_code _ _ a.group b.group i;
   marks = Coded-set marks_code _ _ a.marks b.marks i;
   rank = Coded-set (coded_option coded_ℕ) _ _ a.rank b.rank i;
   push_form = IsForm-prop s.checked.now s.checked.now.push s.push a.push_form b.push_form i;

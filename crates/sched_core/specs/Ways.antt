@@ -4,11 +4,13 @@ use Rattle.std.specs.List.{AllByRecursion}
 use Rattle.tree_defs.specs.Tree.{Tree, Address, LeadsToLeaf, root_of}
 use Rattle.rank_defs.specs.declared.environment.Who.{Who}
 use Rattle.rank_defs.specs.declared.environment.Who.TheVariants.{Child, Flow}
+use Rattle.rank_defs.specs.declared.flow_group.FlowGroup.{FlowGroup}
+use Rattle.rank_defs.specs.FlowGroups.{grouped}
 use Rattle.rank_defs.specs.Programs.{max_rank}
 use Rattle.rank_defs.specs.Shapes.{max_len}
 use Rattle.rank_core.specs.declared.node.NodeState.{NodeState}
 use Rattle.packet_defs.specs.declared.packet.Packet.{Packet}
-use Rattle.policy_defs.specs.Policy.{Node, Class}
+use Rattle.policy_defs.specs.Policy.{Node, Class, group_at}
 use Rattle.policy_defs.specs.Accepted.{IsAccepted, AreMarksInRange}
 use Rattle.policy_core.specs.Parts.{class_in}
 use Rattle.sched_defs.specs.Visits.{States, Visit, visit, env_for, visits_from}
@@ -44,23 +46,25 @@ pub record IsReady (e : PacketPath) : Type 0 where
   pub len : e.packet.now.len ≤ max_len
   pub moment : e.moment ≤ max_rank
 
--- the child or flow whose variables a node's step uses, if the path follows these digits
-abbrev pub who_on : List ℕ → Packet → Who
-who_on [] p = Flow p.flow
-who_on (i ∷ digits) p = Child i
+-- the child or flow whose variables the step of a node with this group uses, if the path follows
+-- these digits
+abbrev pub who_on : FlowGroup → List ℕ → Packet → Who
+who_on group [] p = Flow (grouped group p.flow)
+who_on group (i ∷ digits) p = Child i
 
 -- the visit to the node at a level
 abbrev pub stop : PacketPath → ℕ → Visit
 stop e level =
-    visit (place e level) (root_of (part e level)).program (who_on (ahead e level) e.packet.now) (env_for e.packet.now e.moment (marks_on (part e level) (ahead e level) (class_for e)))
+    visit (place e level) (root_of (part e level)).program (who_on (root_of (part e level)).group (ahead e level) e.packet.now) (env_for e.packet.now e.moment (marks_on (part e level) (ahead e level) (class_for e)))
 
 -- the visits from there down
 abbrev pub way : PacketPath → ℕ → List Visit
 way e level = visits_from (part e level) (place e level) (ahead e level) (class_for e) e.packet.now e.moment
 
--- the leaf has room for the packet's flow
+-- the leaf has room for the packet's flow, grouped as the leaf says
 abbrev pub HasRoomAtLeaf : PacketPath → List NodeState → Type 0
-HasRoomAtLeaf e states = HasRoomAt (tree_for e) states (class_for e).leaf (Flow e.packet.now.flow)
+HasRoomAtLeaf e states =
+    HasRoomAt (tree_for e) states (class_for e).leaf (Flow (grouped (group_at e.policy.now.policy (class_for e).leaf) e.packet.now.flow))
 
 -- each is at most the greatest rank
 abbrev pub AreLowRanks : List ℕ → Type 0

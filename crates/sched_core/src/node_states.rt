@@ -1,38 +1,45 @@
 //! The variables of a policy's nodes.
 ghost use Rattle.std.specs.Prelude.{◌≡◌, ◌≤◌, ◌<◌, ◌+◌, length, IfOk, OnOk};
-ghost use Rattle.tree_defs.specs.Tree.{depth};
+ghost use Rattle.tree_defs.specs.Tree.{depth, nodes, LeadsToLeaf};
 ghost use Rattle.rank_defs.specs.Programs.{max_rank};
 ghost use Rattle.packet_defs.specs.declared.packet.Packet.{Packet as Known};
+ghost use Rattle.policy_core.specs.Numbering.{address_at};
 ghost use Rattle.sched_defs.specs.Visits.{States, ranks_pushed, after_pushes, after_pops};
 ghost use Rattle.sched_defs.specs.SourceState.{first_states, class_of, way_in, way_out};
 ghost use Rattle.sched_defs.specs.Sound.{IsKnown};
 ghost use Rattle.sched_core.specs.Kept.{AreStations, AreStations-prop};
 ghost use Rattle.sched_core.specs.Waypoints.{AreWays, AreWays-prop};
+ghost use Rattle.sched_core.specs.Groups.{IsGrouping, IsGrouping-prop};
 
 use crate::first::first_states;
+use crate::groups::is_grouping;
 use crate::packet_path::PacketPath;
 use crate::path_node::{PathNode, all_waypoints};
 use crate::walk::{pop_along, push_along};
 use packet_defs::Packet;
 use policy_core::Policy;
 use rank_core::NodeState;
+use rank_defs::FlowKey;
 use std::alloc::{AllocError, Global};
 use tree_core::Taken;
 
-/// The variables of a policy's nodes and leaves, with room for flows at the leaves, and the nodes
-/// on the path of each class.
+/// The variables of a policy's nodes and leaves, with room for flows at the leaves, the nodes on the
+/// path of each class, and whether some node groups flows.
 #[derive(Drop)]
 pub struct NodeStates<'a> {
     policy: &'a Policy,
     states: Vec<NodeState>,
     ways: Vec<Vec<PathNode<'a>>>,
+    grouping: bool,
     ghost kept: { AreStations policy.now.policy.tree states.items } by { AreStations-prop policy.now.policy.tree states.items },
     ghost known: { AreWays policy.now.policy ways.items } by { AreWays-prop policy.now.policy ways.items },
+    ghost grouped: { IsGrouping policy.now.policy grouping } by { IsGrouping-prop policy.now.policy grouping },
 }
 
 impl<'a> NodeStates<'a> {
-    ghost use Rattle.sched_core.specs.Agreement.{policy_of, AreStates, HasFlowRoom, ForStates, StatesBecome};
+    ghost use Rattle.sched_core.specs.Agreement.{policy_of, AreStates, HasFlowRoom, HasRoomFor, ForStates, StatesBecome};
     ghost use Rattle.sched_core.specs.Ways.{AreLowRanks};
+    ghost use Rattle.sched_core.specs.Totals.{IsPath};
 
     /// Returns variables with their first values. The error means out of memory.
     pub fn new(alloc: Global, policy: &'a Policy) -> Result<NodeStates<'a>, AllocError>
@@ -43,6 +50,7 @@ impl<'a> NodeStates<'a> {
             policy,
             states: first_states(alloc, policy)?,
             ways: all_waypoints(alloc, policy)?,
+            grouping: is_grouping(policy),
         })
     }
 
@@ -50,6 +58,31 @@ impl<'a> NodeStates<'a> {
         ensures policy { result.now.policy ≡ policy_of self.now }
     {
         self.policy
+    }
+
+    /// Returns the nodes on the path of a packet's class.
+    #[inline(always)]
+    pub fn path(&self, packet: &Packet) -> &[PathNode<'a>]
+        requires known { IsKnown (policy_of self.now) packet.now }
+        ensures path { IsPath (policy_of self.now).tree (class_of (policy_of self.now)
+            packet.now).leaf result.now }
+    {
+        self.ways[packet.class as usize].as_slice()
+    }
+
+    /// Makes room for a flow at a leaf. The error means out of memory.
+    #[inline(always)]
+    fn reserve_at(&mut self, leaf: u32, flow: &FlowKey) -> Result<(), AllocError>
+        requires there { leaf < nodes (policy_of self.old).tree }
+        requires leads { LeadsToLeaf (policy_of self.old).tree
+            (address_at (policy_of self.old).tree leaf) }
+        ensures room { OnOk result (HasRoomFor self.new
+            (address_at (policy_of self.old).tree leaf) flow.now) }
+        ensures states { (values : States) → AreStates self.old values → AreStates self.new values }
+        ensures kept { (other : Known) → HasFlowRoom self.old other → HasFlowRoom self.new other }
+        ensures policy { policy_of self.new ≡ policy_of self.old }
+    {
+        self.states[leaf as usize].reserve(flow)
     }
 
     /// Makes room for a packet's flow at the leaf of its class. The error means out of memory.
@@ -62,7 +95,11 @@ impl<'a> NodeStates<'a> {
         ensures policy { policy_of self.new ≡ policy_of self.old }
     {
         let leaf = self.policy.classes()[packet.class as usize].leaf;
-        self.states[leaf as usize].reserve(&packet.flow)
+        if self.grouping {
+            let key = self.policy.group(leaf).of(&packet.flow);
+            return self.reserve_at(leaf, &key);
+        }
+        self.reserve_at(leaf, &packet.flow)
     }
 
     /// Runs the push steps from the root to the leaf of a packet's class, and sets `trace` to the

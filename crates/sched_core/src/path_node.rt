@@ -10,15 +10,17 @@ ghost use Rattle.sched_core.specs.Waypoints.{rank_told, AreWaypoints, AreWays};
 use policy_core::{Class, Marks, Policy};
 use range_core::Checked;
 use rank_core::{Aim, Expr, Form, Transaction, Var, pop_form, push_form};
+use rank_defs::FlowGroup;
 use std::alloc::{AllocError, Global};
 
-/// A node on the path of a class: its number, its transaction, the forms of its push and pop steps,
-/// the marks that its steps use, and the rank of its push step, if these marks alone determine it
-/// and the step does nothing else.
+/// A node on the path of a class: its number, its transaction, the fields by which it tells flows
+/// apart, the forms of its push and pop steps, the marks that its steps use, and the rank of its push
+/// step, if these marks alone determine it and the step does nothing else.
 #[derive(Drop)]
 pub struct PathNode<'a> {
     pub node: u32,
     pub checked: &'a Checked,
+    pub group: FlowGroup,
     pub marks: Marks,
     pub told: Option<u64>,
     pub push: Form,
@@ -47,6 +49,7 @@ fn waypoint_at<'a>(policy: &'a Policy, node: u32, marks: Marks) -> PathNode<'a>
     requires there { node < nodes policy.now.policy.tree }
     ensures node { result.node ≡ node }
     ensures program { HasAt policy.now.policy.tree node (λ n. result.checked.now ≡ n.program) }
+    ensures group { HasAt policy.now.policy.tree node (λ n. result.group ≡ n.group) }
     ensures marks { result.marks ≡ marks }
     ensures told { result.told ≡ rank_told result.checked.now.push (told marks) }
     ensures push { IsForm result.checked.now result.checked.now.push result.push }
@@ -57,6 +60,7 @@ fn waypoint_at<'a>(policy: &'a Policy, node: u32, marks: Marks) -> PathNode<'a>
     PathNode {
         node,
         checked,
+        group: policy.group(node),
         marks,
         told: rank_told(transaction, &marks),
         push: push_form(transaction),

@@ -5,7 +5,9 @@ ghost use Rattle.tree_defs.specs.Tree.{depth};
 ghost use Rattle.tree_defs.specs.SourceTree.{size};
 ghost use Rattle.packet_defs.specs.declared.packet.Packet.{Packet as Known};
 ghost use Rattle.policy_defs.specs.Accepted.{IsAccepted};
-ghost use Rattle.sched_defs.specs.SourceState.{SourceState, start, class_of, arrival_ranks, is_full, dropped, pushed, departed};
+ghost use Rattle.policy_defs.specs.Policy.{limits_at};
+ghost use Rattle.sched_defs.specs.SourceState.{SourceState, start, class_of, arrival_ranks, is_full, dropped, pushed, departed, total, one};
+ghost use Rattle.sched_defs.specs.Laws.{is_reached};
 ghost use Rattle.sched_defs.specs.Sound.{IsKnown};
 ghost use Rattle.sched_defs.specs.Events.{CanArrive};
 ghost use Rattle.sched_core.specs.Agreement.{HasFlowRoom};
@@ -14,21 +16,25 @@ ghost use Rattle.sched_core.specs.Departures.{next_departed};
 ghost use Rattle.sched_core.specs.Held.{held_at};
 
 use crate::held::Held;
+use crate::limits::{add_to_totals, passes_limits, reserve_totals, take_from_totals, totals_of};
 use crate::node_states::NodeStates;
+use crate::node_totals::NodeTotals;
 use packet_defs::{BLANK, Departed, Packet};
 use policy_core::Policy;
 use std::alloc::{AllocError, Global};
 use tree_core::Taken;
 
 /// The state that a scheduler keeps itself, whichever component owns its queues: the nodes'
-/// variables, the queued packets, how many of them are at each leaf (by node number), and the
-/// latest timestamp. The flow of each queued packet has room at its leaf, so a departure takes no
-/// memory. A packet that departs is written to `leaver`, so that no blank packet is made for it.
+/// variables, the queued packets, how many of them are at each leaf (by node number), how much is
+/// queued at each node if the policy's limits need it, and the latest timestamp. The flow of each
+/// queued packet has room at its leaf, so a departure takes no memory. A packet that departs is
+/// written to `leaver`, so that no blank packet is made for it.
 #[derive(Drop)]
 pub struct PolicyState<'a> {
     stations: NodeStates<'a>,
     held: Held,
     filled: Vec<u64>,
+    totals: Option<Vec<NodeTotals>>,
     moment: u64,
     pushes: u64,
     departures: u64,
@@ -50,6 +56,7 @@ impl<'a> PolicyState<'a> {
             stations: NodeStates::new(alloc, policy)?,
             held: Held::new(alloc),
             filled: vec![in alloc; 0; policy.count() as usize]?,
+            totals: totals_of(alloc, policy)?,
             moment: 0,
             pushes: 0,
             departures: 0,
@@ -76,17 +83,32 @@ impl<'a> PolicyState<'a> {
         policy.address(policy.classes()[packet.class as usize].leaf)
     }
 
-    /// Returns whether the leaf of a packet's class has a limit that is reached.
+    /// Returns whether the leaf of a packet's class has a limit on packets that is reached.
+    #[inline(always)]
+    fn is_leaf_full(&self, packet: &Packet) -> bool
+        requires accepted { IsAccepted (policy_in self.now) }
+        requires stands { IsOfOne self.now (λ _. IsKnown (policy_in self.now) packet.now) }
+        ensures full { IsOfEach self.now (λ s. result ≡ is_reached (limits_at
+            (policy_in self.now) (class_of (policy_in self.now) packet.now).leaf).packets
+            (total one s (class_of (policy_in self.now) packet.now).leaf)) }
+    {
+        let leaf = self.leaf(packet);
+        match self.stations.policy().limits(leaf).packets {
+            None => false,
+            Some(limit) => u64::from(limit) == self.filled[leaf as usize],
+        }
+    }
+
+    /// Returns whether a packet would pass a limit on the path to the leaf of its class.
     #[inline(always)]
     pub fn is_full(&self, packet: &Packet) -> bool
         requires accepted { IsAccepted (policy_in self.now) }
         requires stands { IsOfOne self.now (λ _. IsKnown (policy_in self.now) packet.now) }
         ensures full { IsOfEach self.now (λ s. result ≡ is_full (policy_in self.now) packet.now s) }
     {
-        let leaf = self.leaf(packet);
-        match self.stations.policy().limit(leaf) {
-            None => false,
-            Some(limit) => self.filled[leaf as usize] == u64::from(limit),
+        match &self.totals {
+            None => self.is_leaf_full(packet),
+            Some(totals) => passes_limits(totals.as_slice(), &self.stations, packet),
         }
     }
 
@@ -130,10 +152,12 @@ impl<'a> PolicyState<'a> {
         ensures policy { policy_in self.new ≡ policy_in self.old }
     {
         self.stations.reserve(packet)?;
+        reserve_totals(&mut self.totals, &self.stations, packet)?;
         self.held.put(packet)?;
         let moment = self.moment.max(packet.moment);
         self.stations.push_steps(packet, moment, trace);
         self.moment = moment;
+        add_to_totals(&mut self.totals, &self.stations, packet);
         let leaf = self.leaf(packet);
         self.filled[leaf as usize] += 1;
         self.pushes += 1;
@@ -162,6 +186,7 @@ impl<'a> PolicyState<'a> {
         }
         self.stations
             .pop_steps(&self.leaver, digits, ranks, self.moment);
+        take_from_totals(&mut self.totals, &self.stations, &self.leaver);
         let leaf = self.leaf(&self.leaver);
         self.filled[leaf as usize] -= 1;
         Departed {

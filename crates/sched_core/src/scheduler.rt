@@ -20,7 +20,7 @@ use tree_core::Taken;
 #[derive(Clone, Copy, PartialEq, Eq, Debug)]
 pub enum Arrival {
     Pushed(u32),
-    /// The leaf has a limit, and the limit is reached.
+    /// The packet would pass a limit on the path to its leaf.
     Dropped(u32),
 }
 
@@ -46,9 +46,9 @@ pub trait Scheduler {
     /// How often pushes into the queues spilled, if that is known to the contract.
     ghost spilled: { Self → Self.Under → Option ℕ };
 
-    /// Handles the arrival of a packet. If the leaf of its class has a limit that is reached, the
-    /// packet is dropped: the latest timestamp may rise, and nothing else changes. Otherwise the
-    /// push steps run from the root to that leaf, the packet is pushed with their ranks, and
+    /// Handles the arrival of a packet. If it would pass a limit on the path to the leaf of its
+    /// class, it is dropped: the latest timestamp may rise, and nothing else changes. Otherwise
+    /// the push steps run from the root to that leaf, the packet is pushed with their ranks, and
     /// `trace` gets the leaf's address and the ranks. The error means out of memory. A drop needs
     /// no memory.
     fn arrive(

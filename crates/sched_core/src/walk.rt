@@ -34,7 +34,8 @@ fn push_step(states: &mut [NodeState], passage: &PacketPath, digits: &[u32], lev
         let child = Who::Child(digits[level]);
         return push_by_form(&waypoint.push, transaction, state, &child, &env);
     }
-    let flow = Who::Flow(passage.packet.flow);
+    let key = waypoint.group.of(&passage.packet.flow);
+    let flow = Who::Flow(key);
     push_by_form(&waypoint.push, transaction, state, &flow, &env)
 }
 
@@ -106,7 +107,8 @@ fn pop_step(states: &mut [NodeState], passage: &PacketPath, digits: &[u32], leve
         let child = Who::Child(digits[level]);
         pop_by_form(&waypoint.pop, transaction, state, &child, rank, &env);
     } else {
-        let flow = Who::Flow(passage.packet.flow);
+        let key = waypoint.group.of(&passage.packet.flow);
+        let flow = Who::Flow(key);
         pop_by_form(&waypoint.pop, transaction, state, &flow, rank, &env);
     }
 }

@@ -4,6 +4,8 @@ pub mod Ranks
 pub mod Visits
 pub mod States
 pub mod Counts
+pub mod Queued
+pub mod Totals
 pub mod Soundness
 pub mod Runs
 pub mod Leaving
@@ -11,3 +13,4 @@ pub mod Courses
 pub mod Drains
 pub mod Links
 pub mod SendTimes
+pub mod Classic

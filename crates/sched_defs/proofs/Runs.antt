@@ -1,5 +1,7 @@
 -- Events in a row.
-use Rattle.sched_defs.proofs.Prelude.{◌≡◌, List, [], arith, ℕ, ◌∷◌, Some, ap, refl, subst, sym, ◌+◌, length, suc, zero, Option, ◌++◌, None, false, Bool, true, if◌then◌else◌, map, replicate, ◌≢◌, ◌↔◌, Packet, IsAccepted, Policy, limit_at, size, Address, CanArrive, Depart, Event, after, outcomes, Arrive, CanMake, Outcome, dropped_in, pushed_in, Arrived, Dropped, asked_in, departure, empty_in, outcome, Departed, Empty, popped_in, step, IsSound, SourceState, departed, arrival_ranks, arrived, class_of, Leaver, is_full, leaver, pushed, dropped}
+use Rattle.sched_defs.proofs.Prelude.{◌≡◌, List, [], arith, ℕ, ◌∷◌, Some, ap, refl, subst, sym, ◌+◌, length, suc, zero, Option, ◌++◌, None, false, Bool, true, if◌then◌else◌, map, replicate, ◌≢◌, ◌↔◌, ◌∙◌, Packet, IsAccepted, Policy, limits_at, no_limits, size, Address, CanArrive, Depart, Event, after, outcomes, Arrive, CanMake, Outcome, dropped_in, pushed_in, Arrived, Dropped, asked_in, departure, empty_in, outcome, Departed, Empty, popped_in, step, IsSound, SourceState, departed, arrival_ranks, arrived, class_of, Leaver, is_full, leaver, pushed, dropped, passes_at}
+use Rattle.std.proofs.lemmas.Bool.{true≢false}
+use Rattle.sched_defs.proofs.Totals.{Meets, way-met}
 use Rattle.sched_defs.proofs.Soundness.{sound_arrived, sound_departed}
 use Rattle.sched_defs.proofs.Leaving.{size_pushed, size_departed, leaver-none}
 
@@ -143,12 +145,25 @@ departure_drops_none : (start : Option ℕ) (o : Option Leaver) (os : List Outco
 departure_drops_none start None os none = none
 departure_drops_none start (Some l) os none = none
 
-pub none_dropped : (policy : Policy) (es : List Event) (s : SourceState) → ((a : Address) → limit_at policy a ≡ None) → dropped_in (outcomes policy es s) ≡ 0
+-- no limit is passed where there is none
+pub none_is_over : (policy : Policy) (p : Packet) (s : SourceState) (a : Address) → limits_at policy a ≡ no_limits → passes_at policy p s a ≡ false
+none_is_over policy p s a none = rw none refl
+
+is_never_full : (policy : Policy) (p : Packet) (s : SourceState) → ((a : Address) → limits_at policy a ≡ no_limits) → is_full policy p s ≡ false
+is_never_full policy p s free = by_test (is_full policy p s) refl
+  where
+    by_test : (t : Bool) → is_full policy p s ≡ t → is_full policy p s ≡ false
+    by_test false e = e
+    by_test true e =
+        let m : Meets (passes_at policy p s) (class_of policy p).leaf = way-met (passes_at policy p s) (class_of policy p).leaf e in
+        absurd (true≢false (sym m.met ∙ none_is_over policy p s m.at (free m.at)))
+
+pub none_dropped : (policy : Policy) (es : List Event) (s : SourceState) → ((a : Address) → limits_at policy a ≡ no_limits) → dropped_in (outcomes policy es s) ≡ 0
 none_dropped policy [] s free = refl
 none_dropped policy (Arrive p ∷ es) s free =
-    let e : is_full policy p s ≡ false = rw (free (class_of policy p).leaf) refl in
     let rest : dropped_in (outcomes policy es (pushed policy p s)) ≡ 0 = none_dropped policy es (pushed policy p s) free in
-    subst (λ (t : Bool). dropped_in ((if t then Dropped p (class_of policy p).leaf else Arrived p (class_of policy p).leaf (arrival_ranks policy p s)) ∷ outcomes policy es (if t then dropped p s else pushed policy p s)) ≡ 0) (sym e) rest
+    subst (λ (t : Bool). dropped_in ((if t then Dropped p (class_of policy p).leaf else Arrived p (class_of policy p).leaf (arrival_ranks policy p s)) ∷ outcomes policy es (if t then dropped p s else pushed policy p s)) ≡ 0)
+    (sym (is_never_full policy p s free)) rest
 none_dropped policy (Depart start ∷ es) s free = departure_drops_none start (leaver s) (outcomes policy es (departed policy s)) (none_dropped policy es (departed policy s) free)
 
 -- ---- arrivals in a row

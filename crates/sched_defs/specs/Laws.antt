@@ -1,13 +1,15 @@
 -- Consequences of the definitions of states and events.
-use Rattle.std.specs.Prelude.{◌≡◌, ◌<◌, ◌≤◌, ◌↔◌, ◌⊎◌, ℕ, ◌+◌, ◌-◌, max, nat_eq, IsSome, Option, None, Some, List, [], ◌∷◌, ◌++◌, length, replicate, ⊤}
+use Rattle.std.specs.Prelude.{◌≡◌, ◌<◌, ◌≤◌, ◌↔◌, ◌⊎◌, ℕ, ◌+◌, ◌-◌, max, ◌==◌, Bool, false, nat_eq, IsSome, Option, None, Some, List, [], ◌∷◌, ◌++◌, length, replicate, ⊤}
 use Rattle.std.specs.List.{AllByRecursion, IsDistinct, Contains}
 use Rattle.tree_defs.specs.Tree.{Address, LeadsToLeaf}
 use Rattle.tree_defs.specs.SourceTree.{size}
+use Rattle.tree_defs.specs.Packets.{queue_at}
 use Rattle.rank_defs.specs.Programs.{max_rank}
 use Rattle.packet_defs.specs.declared.packet.Packet.{Packet}
-use Rattle.policy_defs.specs.Policy.{Policy, limit_at}
+use Rattle.policy_defs.specs.Policy.{Policy, no_limits, limits_at}
+use Rattle.policy_defs.specs.Classic.{IsClassic}
 use Rattle.policy_defs.specs.Accepted.{IsAccepted}
-use Rattle.sched_defs.specs.SourceState.{Held, SourceState, Leaver, start, class_of, arrival_ranks, pushed, arrived, departed, leaver}
+use Rattle.sched_defs.specs.SourceState.{Held, SourceState, Leaver, start, class_of, arrival_ranks, is_full, pushed, arrived, departed, leaver}
 use Rattle.sched_defs.specs.Sound.{IsSound}
 use Rattle.sched_defs.specs.Events.{Event, Arrive, Depart, Outcome, after, outcomes, pushed_in, popped_in, dropped_in, empty_in, asked_in, CanArrive, CanMake}
 use Rattle.sched_defs.specs.Script.{Step, Drain, step_events, left_by, course}
@@ -52,9 +54,21 @@ NoneIsLost =
     (policy : Policy) (events : List Event) (s : SourceState) → IsAccepted policy → IsSound policy s → CanMake policy events s
     → size (after policy events s).tree + popped_in (outcomes policy events s) ≡ size s.tree + pushed_in (outcomes policy events s)
 
--- if no leaf has a limit, nothing is dropped
+-- if no node has a limit, nothing is dropped
 abbrev pub NothingIsDroppedWithoutLimits : Type 0
-NothingIsDroppedWithoutLimits = (policy : Policy) (events : List Event) (s : SourceState) → ((a : Address) → limit_at policy a ≡ None) → dropped_in (outcomes policy events s) ≡ 0
+NothingIsDroppedWithoutLimits = (policy : Policy) (events : List Event) (s : SourceState) → ((a : Address) → limits_at policy a ≡ no_limits) → dropped_in (outcomes policy events s) ≡ 0
+
+-- there is a limit, and it is reached
+abbrev pub is_reached : Option ℕ → ℕ → Bool
+is_reached None n = false
+is_reached (Some limit) n = limit == n
+
+-- with a policy of version 1 or 2, a packet is dropped exactly if its leaf has a limit that is
+-- reached
+abbrev pub ClassicLimitsFillLeaves : Type 0
+ClassicLimitsFillLeaves =
+    (policy : Policy) (p : Packet) (s : SourceState) → IsClassic policy → IsAccepted policy → IsSound policy s → CanArrive policy s p
+    → is_full policy p s ≡ is_reached (limits_at policy (class_of policy p).leaf).packets (length (queue_at s.tree (class_of policy p).leaf))
 
 -- ---- arrivals and departures
 -- a rank in range for each node on the path

@@ -3,6 +3,8 @@ use Rattle.std.specs.Prelude.{◌≡◌, refl, ℕ, None, Some, List, [], ◌∷
 use Rattle.std.specs.Fmt.{digits}
 use Rattle.sched_defs.specs.Faults.{FaultAt}
 use Rattle.rank_defs.specs.declared.environment.FlowKey.{FlowKey}
+use Rattle.rank_defs.specs.declared.flow_group.FlowGroup.{FlowGroup}
+use Rattle.rank_defs.specs.declared.flow_group.FlowGroup.TheVariants.{FiveTuple, Source}
 use Rattle.rank_defs.specs.declared.expression.Op.TheVariants.{Add, Sub}
 use Rattle.rank_defs.specs.declared.expression.Var.TheVariants.{Len, Now, Weight, Slack, Rank, Keep}
 use Rattle.rank_defs.specs.declared.transaction.Aim.TheVariants.{Rank as AimRank, Keep as AimKeep}
@@ -11,7 +13,8 @@ use Rattle.rank_defs.specs.Programs.{Program}
 use Rattle.rank_defs.specs.Builtins.{set, counter, ranked_by, shortest, strict, fifo, rr, stfq}
 use Rattle.tree_defs.specs.Tree.{leaf, inner, none, more}
 use Rattle.packet_defs.specs.declared.packet.Packet.{Packet}
-use Rattle.policy_defs.specs.Policy.{Policy, no_marks, Node, one_leaf}
+use Rattle.policy_defs.specs.declared.limits.Limits.{Limits}
+use Rattle.policy_defs.specs.Policy.{Policy, no_marks, no_limits, at_most, Node, one_leaf}
 use Rattle.sched_defs.specs.Script.{Arrivals, Departures, Rest, Drain}
 use Rattle.sched_defs.specs.Report.{report, shown_drops}
 
@@ -51,7 +54,7 @@ unfolding digits
 report-unsent = refl
 
 abbrev pub node : List ℕ → Program → Node
-node name program = record { name = name; using = []; program = program; marks = no_marks; limit = None }
+node name program = record { name = name; using = []; program = program; marks = no_marks; limits = no_limits; group = FiveTuple }
 
 -- The root takes the shortest packet's entry first, and the leaf dequeues its longest packet first.
 abbrev pub inversion : Policy
@@ -101,7 +104,7 @@ report-by_weight = refl
 abbrev pub limited : Policy
 limited = record by_weight {
   version = 2;
-  tree = inner (node (codes "root") stfq) (more (leaf (record (node (codes "a") fifo) { marks = record no_marks { weight = 3 }; limit = Some 1 })) (more (leaf (node (codes "b") fifo)) none));
+  tree = inner (node (codes "root") stfq) (more (leaf (record (node (codes "a") fifo) { marks = record no_marks { weight = 3 }; limits = at_most (Some 1) })) (more (leaf (node (codes "b") fifo)) none));
 }
 
 pub report-limited : report limited (Arrivals 3 ∷ Departures 1 ∷ Arrivals 1 ∷ Drain ∷ [])
@@ -114,7 +117,7 @@ report-limited = refl
 abbrev pub one_leaf_limited : Policy
 one_leaf_limited = record {
   version = 2;
-  tree = leaf (record (node (codes "root") fifo) { limit = Some 1 });
+  tree = leaf (record (node (codes "root") fifo) { limits = at_most (Some 1) });
   classes = record { marks = no_marks; leaf = [] } ∷ [];
 }
 
@@ -129,7 +132,7 @@ drops_shown = refl
 
 -- a dropped packet raises `now`, which ranks the next one
 abbrev pub by_time_limited : Policy
-by_time_limited = record one_leaf_limited { tree = leaf (record (node (codes "root") (ranked_by (variable Now))) { limit = Some 1 }) }
+by_time_limited = record one_leaf_limited { tree = leaf (record (node (codes "root") (ranked_by (variable Now))) { limits = at_most (Some 1) }) }
 
 pub report-a_drop_raises_now : report by_time_limited (Arrivals 2 ∷ Departures 1 ∷ Arrivals 1 ∷ []) (packet 1 4 5 ∷ packet 2 4 9 ∷ packet 3 4 7 ∷ []) None
     ≡ codes "a 1 1 root 5\nx 2 2 root\nd 3 1 root 5\na 4 3 root 9\nend pushed 2 popped 1 empty 0 held 1 unsent 0 dropped 1\n"
@@ -159,3 +162,47 @@ pub report-marks_at_a_leaf : report marked (Arrivals 1 ∷ Departures 1 ∷ Arri
     ≡ codes "a 1 1 q 7/10\nd 2 1 q 7/10\na 3 2 q 7/23\nend pushed 2 popped 1 empty 0 held 1 unsent 0\n"
 unfolding digits
 report-marks_at_a_leaf = refl
+
+-- ---- limits of version 3
+abbrev pub with_limits : Limits → FlowGroup → Program → Policy
+with_limits limits group program = record one_leaf_limited {
+  version = 3;
+  tree = leaf (record (node (codes "root") program) { limits = limits; group = group });
+}
+
+-- 1,500 bytes may be queued: the second packet doesn't fit, and the third does
+pub report-limited_bytes : report (with_limits (record no_limits { bytes = Some 1500 }) FiveTuple fifo) (Arrivals 3 ∷ []) (packet 1 1000 0 ∷ packet 2 501 0 ∷ packet 3 500 0 ∷ []) None
+    ≡ codes "a 1 1 root 0\nx 2 2 root\na 3 3 root 0\nend pushed 2 popped 0 empty 0 held 2 unsent 0 dropped 1\n"
+unfolding digits
+report-limited_bytes = refl
+
+-- Two limits on one leaf: the second packet would pass that on bytes, the fourth that on packets.
+pub report-two_limits : report (with_limits (record { packets = Some 2; bytes = Some 1000; per_flow = None }) FiveTuple fifo) (Rest ∷ [])
+    (packet 1 600 0 ∷ packet 2 600 0 ∷ packet 3 100 0 ∷ packet 4 100 0 ∷ []) None
+    ≡ codes "a 1 1 root 0\nx 2 2 root\na 3 3 root 0\nx 4 4 root\nend pushed 2 popped 0 empty 0 held 2 unsent 0 dropped 2\n"
+unfolding digits
+report-two_limits = refl
+
+abbrev pub from_source : ℕ → ℕ → ℕ → Packet
+from_source n source sport = record (packet n 1500 0) { flow = record no_flow { source = source; sport = sport } }
+
+-- With `flow by src`, two ports of one source are one flow. The flow has one set of variables, which
+-- rank its packets, and one limit.
+pub report-flow_by_source : report (with_limits (record no_limits { per_flow = Some 2 }) Source stfq) (Rest ∷ [])
+    (from_source 1 1 5 ∷ from_source 2 1 6 ∷ from_source 3 1 7 ∷ from_source 4 2 5 ∷ []) None
+    ≡ codes "a 1 1 root 0\na 2 2 root 1500000\nx 3 3 root\na 4 4 root 0\nend pushed 3 popped 0 empty 0 held 3 unsent 0 dropped 1\n"
+unfolding digits
+report-flow_by_source = refl
+
+-- The limit of an inner node counts the packets of all leaves below it. The departure of the other
+-- leaf's packet makes room.
+abbrev pub limited_root : Policy
+limited_root = record in_turn {
+  version = 3;
+  tree = inner (record (node (codes "root") rr) { limits = at_most (Some 2) }) (more (leaf (node (codes "a") fifo)) (more (leaf (node (codes "b") fifo)) none));
+}
+
+pub report-limited_root : report limited_root (Arrivals 3 ∷ Departures 1 ∷ Arrivals 1 ∷ []) (of_class 1 0 ∷ of_class 2 1 ∷ of_class 3 1 ∷ of_class 4 1 ∷ []) None
+    ≡ codes "a 1 1 a 0/0\na 2 2 b 0/0\nx 3 3 b\nd 4 1 a 0/0\na 5 4 b 1/0\nend pushed 3 popped 1 empty 0 held 2 unsent 0 dropped 1\n"
+unfolding digits
+report-limited_root = refl

@@ -1,14 +1,18 @@
 -- The state of a policy's tree of queues, and how an arrival and a departure change it (SIGCOMM
 -- 2016, OOPSLA 2023).
-use Rattle.std.specs.Prelude.{ℕ, max, ◌==◌, Bool, false, if◌then◌else◌, Option, None, Some, option_map, unwrap_or, List, [], length}
+use Rattle.std.specs.Prelude.{◌≡◌, refl, ℕ, ◌+◌, max, ◌==◌, nat_le, Bool, true, false, not, ◌&&◌, ◌||◌, if◌then◌else◌, Option, None, Some, option_map, unwrap_or, List, [], ◌∷◌, map}
+use Rattle.std.specs.List.{list_any}
 use Rattle.std.specs.Option.{option_map_or}
 use Rattle.tree_defs.specs.Tree.{Tree, Address, Popping, option_bind}
 use Rattle.tree_defs.specs.Topology.{topology_of}
 use Rattle.tree_defs.specs.SourceTree.{SourceTree, empty_tree, push, pop}
-use Rattle.tree_defs.specs.Packets.{queue_at}
-use Rattle.rank_defs.specs.States.{State, first_state}
+use Rattle.tree_defs.specs.Packets.{Placed, packets}
+use Rattle.rank_defs.specs.declared.environment.FlowKey.{FlowKey}
+use Rattle.rank_defs.specs.declared.flow_group.FlowGroup.{FlowGroup}
+use Rattle.rank_defs.specs.FlowGroups.{grouped}
+use Rattle.rank_defs.specs.States.{State, first_state, same_flow}
 use Rattle.packet_defs.specs.declared.packet.Packet.{Packet}
-use Rattle.policy_defs.specs.Policy.{Policy, Node, Class, no_marks, node_at, class_at, limit_at}
+use Rattle.policy_defs.specs.Policy.{Policy, Node, Class, no_marks, node_at, class_at, limits_at, group_at}
 use Rattle.sched_defs.specs.Visits.{States, Visit, visits_from, ranks_pushed, after_pushes, after_pops}
 
 -- the packet that is queued under a number, if there is one
@@ -58,18 +62,53 @@ way_in policy p moment = visits_from policy.tree [] (class_of policy p).leaf (cl
 abbrev pub arrival_ranks : Policy → Packet → SourceState → List ℕ
 arrival_ranks policy p s = ranks_pushed s.nodes (way_in policy p (max s.now p.moment))
 
--- how many packets are in the leaf at an address
-abbrev pub filled : SourceState → Address → ℕ
-filled s a = length (queue_at s.tree a)
+-- ---- limits
+-- the node or leaf at an address is on the way to the one at the other address
+abbrev pub leads_over : Address → Address → Bool
+leads_over [] b = true
+leads_over (i ∷ a) [] = false
+leads_over (i ∷ a) (j ∷ b) = i == j && leads_over a b
 
--- there is a limit, and it is reached
-abbrev pub is_reached : Option ℕ → ℕ → Bool
-is_reached None n = false
-is_reached (Some limit) n = n == limit
+-- the sum of a quantity over those of the packets that are in the leaf, or in a leaf below the node,
+-- at an address
+abbrev pub sum_over : (Packet → ℕ) → Held → Address → List Placed → ℕ
+sum_over quantity held a [] = 0
+sum_over quantity held a (at ∷ others) =
+    (if leads_over a at.0 then option_map_or quantity (held at.1) 0 else 0) + sum_over quantity held a others
 
--- the leaf of the packet's class has a limit, and the limit is reached
+abbrev pub total : (Packet → ℕ) → SourceState → Address → ℕ
+total quantity s a = sum_over quantity s.held a (packets s.tree)
+
+-- the quantities that limits are about: packets, bytes, and packets of a flow
+abbrev pub one : Packet → ℕ
+one p = 1
+
+abbrev pub bytes_of : Packet → ℕ
+bytes_of p = p.len
+
+abbrev pub one_of : FlowGroup → FlowKey → Packet → ℕ
+one_of group flow p = if same_flow (grouped group p.flow) flow then 1 else 0
+
+-- a quantity is greater than the limit, if there is one
+abbrev pub is_over : Option ℕ → ℕ → Bool
+is_over None n = false
+is_over (Some limit) n = not (nat_le n limit)
+
+-- with the packet, a limit at the address would be passed
+abbrev pub passes_at : Policy → Packet → SourceState → Address → Bool
+passes_at policy p s a =
+    is_over (limits_at policy a).packets (total one s a + 1)
+    || (is_over (limits_at policy a).bytes (total bytes_of s a + p.len)
+    || is_over (limits_at policy a).per_flow (total (one_of (group_at policy a) (grouped (group_at policy a) p.flow)) s a + 1))
+
+-- the addresses of the nodes on the way to a leaf, from the root's to the leaf's
+abbrev pub way_to : Address → List Address
+way_to [] = [] ∷ []
+way_to (i ∷ a) = [] ∷ map (λ b. i ∷ b) (way_to a)
+
+-- with the packet, a limit on its way to the leaf of its class would be passed
 abbrev pub is_full : Policy → Packet → SourceState → Bool
-is_full policy p s = is_reached (limit_at policy (class_of policy p).leaf) (filled s (class_of policy p).leaf)
+is_full policy p s = list_any (passes_at policy p s) (way_to (class_of policy p).leaf)
 
 -- after a packet was dropped: only the greatest timestamp may change
 abbrev pub dropped : Packet → SourceState → SourceState
@@ -84,7 +123,7 @@ pushed policy p s = record {
   now = max s.now p.moment;
 }
 
--- after a packet arrived: it is dropped if its leaf is full (tail drop), and pushed otherwise
+-- after a packet arrived: it is dropped if it would pass a limit (tail drop), and pushed otherwise
 abbrev pub arrived : Policy → Packet → SourceState → SourceState
 arrived policy p s = if is_full policy p s then dropped p s else pushed policy p s
 
@@ -122,3 +161,10 @@ leaving taken p = record { packet = p; digits = taken.digits; ranks = taken.rank
 -- the packet that departs next, if there is one
 abbrev pub leaver : SourceState → Option Leaver
 leaver s = option_bind (pop s.tree) (λ taken. option_map (leaving taken) (s.held taken.value))
+
+-- the root is on each way, and the leaf is the last on its own
+a_way : way_to (1 ∷ 0 ∷ []) ≡ [] ∷ (1 ∷ []) ∷ (1 ∷ 0 ∷ []) ∷ []
+a_way = refl
+
+ways_over : map (leads_over (1 ∷ [])) ([] ∷ (0 ∷ []) ∷ (1 ∷ []) ∷ (1 ∷ 0 ∷ []) ∷ []) ≡ false ∷ false ∷ true ∷ true ∷ []
+ways_over = refl

@@ -5,6 +5,7 @@ use Rattle.tree_defs.specs.Tree.{Tree, leaf, inner, Trees, none, more, Address, 
 use Rattle.rank_defs.specs.declared.environment.Env.{Env}
 use Rattle.rank_defs.specs.declared.environment.Who.{Who}
 use Rattle.rank_defs.specs.declared.environment.Who.TheVariants.{Child, Flow}
+use Rattle.rank_defs.specs.FlowGroups.{grouped}
 use Rattle.rank_defs.specs.Programs.{Program}
 use Rattle.rank_defs.specs.States.{State}
 use Rattle.rank_defs.specs.Steps.{push_rank, after_push, after_pop}
@@ -32,11 +33,11 @@ child_marks (more t ts) zero = (root_of t).marks
 child_marks (more t ts) (suc i) = child_marks ts i
 
 -- The nodes from the one at an address down, along digits that end at a leaf. An inner node's step
--- gets the child on the path and the child's marks. The leaf's step gets the packet's flow and the
--- marks of its class.
+-- gets the child on the path and the child's marks. The leaf's step gets the packet's flow, grouped
+-- as the leaf says, and the marks of its class.
 abbrev mutual
   pub visits_from : Tree Node → Address → List ℕ → Class → Packet → ℕ → List Visit
-  visits_from (leaf n) a digits c p moment = visit a n.program (Flow p.flow) (env_for p moment c.marks) ∷ []
+  visits_from (leaf n) a digits c p moment = visit a n.program (Flow (grouped n.group p.flow)) (env_for p moment c.marks) ∷ []
   visits_from (inner n ts) a [] c p moment = []
   visits_from (inner n ts) a (i ∷ digits) c p moment =
       visit a n.program (Child i) (env_for p moment (child_marks ts i)) ∷ visits_below ts i (a ++ i ∷ []) digits c p moment

@@ -1,5 +1,5 @@
 //! Laws of states and events.
-ghost use Rattle.sched_defs.specs.Laws.{StartIsSound, ArrivalsKeepSound, DeparturesKeepSound, EventsKeepSound, HeldStandInLeaves, PushesAddOne, DeparturesTakeOne, NoneIsLost, NothingIsDroppedWithoutLimits, ArrivalsComeToLeaves, NothingLeavesWhereNothingIsHeld, PacketsLeaveTheirLeaves, EventsJoin, DeparturesCanBeMade, CoursesCanBeMade, CoursesAreShort, DrainsLeaveNothing, EachDrainLeavesNothing, LastDrainsLeaveNothing, LinksCanRun, LinksSendAll, LinksSendWhatIsDue, LinksSendBeforeEach};
+ghost use Rattle.sched_defs.specs.Laws.{StartIsSound, ArrivalsKeepSound, DeparturesKeepSound, EventsKeepSound, HeldStandInLeaves, PushesAddOne, DeparturesTakeOne, NoneIsLost, NothingIsDroppedWithoutLimits, ClassicLimitsFillLeaves, ArrivalsComeToLeaves, NothingLeavesWhereNothingIsHeld, PacketsLeaveTheirLeaves, EventsJoin, DeparturesCanBeMade, CoursesCanBeMade, CoursesAreShort, DrainsLeaveNothing, EachDrainLeavesNothing, LastDrainsLeaveNothing, LinksCanRun, LinksSendAll, LinksSendWhatIsDue, LinksSendBeforeEach};
 
 /// Arrivals and departures keep a state sound, from the start on.
 pub fn events_keep_states_sound()
@@ -17,6 +17,12 @@ pub fn held_packets_stand_in_leaves()
     ensures departures { DeparturesTakeOne }
     ensures events { NoneIsLost }
     ensures drops { NothingIsDroppedWithoutLimits }
+{}
+
+/// With a policy that version 1 or 2 of the language can write, a packet is dropped exactly if its
+/// leaf has a limit that is reached.
+pub fn classic_limits_fill_leaves()
+    ensures { ClassicLimitsFillLeaves }
 {}
 
 /// Packets arrive at the leaves of their classes and depart from them. No packet departs exactly if

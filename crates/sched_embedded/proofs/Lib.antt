@@ -4,5 +4,5 @@ pub mod LowRanks
 pub mod LiftMoves
 pub mod DepartedPackets
 pub mod ClassLanes
-pub mod LeafCounts
+pub mod QueuedTotals
 pub mod FivePoints

@@ -1,7 +1,8 @@
 -- The names that the proofs of this crate take from outside, passed on from one place. Declares nothing.
-pub use Rattle.std.proofs.Common.{sym, ℕ, ◌∙◌, ap, ◌≡◌, subst, List, arith, length, Some, [], refl, suc, ◌∷◌, None, zero, ◌+◌, Option, map, ◌++◌, false, ◌<◌, IsSome, drop, get_or, inl, inr, nat_eq, replicate, ◌-◌, ◌↔◌, ◌≤◌, ◌⊎◌}
+pub use Rattle.std.proofs.Common.{sym, ℕ, ◌∙◌, ap, ◌≡◌, subst, List, arith, length, Some, [], refl, suc, ◌∷◌, None, zero, ◌+◌, Option, map, ◌++◌, false, ◌<◌, IsSome, drop, get_or, inl, inr, nat_eq, replicate, ◌-◌, ◌↔◌, ◌≤◌, ◌⊎◌, if◌then◌else◌}
 pub use Rattle.std.proofs.lemmas.List.{length-map, get_or-map, length-append, with_items_is}
 pub use Rattle.std.specs.List.{AllByRecursion, Contains}
+pub use Rattle.std.specs.Option.{option_map_or}
 pub use Rattle.std.specs.Prelude.{slice_get, slice_index, IfSome, option_map, unwrap_or}
 pub use Rattle.embed_core.specs.Lanes.{IsLaneTo, AreLeafLanes}
 pub use Rattle.embed_core.specs.Picks.{IsLeafImage}
@@ -18,7 +19,7 @@ pub use Rattle.sched_core.specs.PolicyState.{policy_in, PopsNext}
 pub use Rattle.sched_core.specs.Spills.{raised}
 pub use Rattle.sched_defs.proofs.Leaving.{pop_size, arrives_at_a_leaf, held_count, values_are_numbers}
 pub use Rattle.sched_defs.specs.Sound.{IsSound, IsAtItsLeaf}
-pub use Rattle.sched_defs.specs.SourceState.{SourceState, class_of, departed, arrival_ranks, filled, is_full, leaver}
+pub use Rattle.sched_defs.specs.SourceState.{SourceState, Held, class_of, departed, arrival_ranks, is_full, leaver, leads_over, sum_over, total}
 pub use Rattle.tree_core.specs.Paths.{Way}
 pub use Rattle.tree_defs.proofs.Shapes.{topology_of-same, LeadsToLeaf-topology, depth-topology, pop-path, same_shape, topology_of-empty}
 pub use Rattle.tree_defs.proofs.TopologyLaws.{leaf_at, deep_leaf}

@@ -107,7 +107,7 @@ held_label (n, statement.Pop t s) ls = refl
 held_label (n, statement.Class t a cs) ls = refl
 held_label (n, statement.Filter t a ts) ls = refl
 held_label (n, statement.Leaf t u a m ns) ls = refl
-held_label (n, statement.Node t u a ns) ls = refl
+held_label (n, statement.Node t u a q ns) ls = refl
 
 pub held_labels_are : (ls : List Numbered) → held_labels ls ≡ class_labels (map entry_of ls)
 held_labels_are [] = refl

@@ -14,7 +14,7 @@ use Rattle.tap_core.specs.Lists.{Entry}
 use Rattle.study.specs.Files.{CanStudyEnd}
 use Rattle.study.specs.Studied.{IsAnswered}
 use Rattle.study.specs.declared.parts.Study.{Study}
-use Rattle.zovatsemo.specs.Front.{latest, form_asked, block_form_asked, Asked, study_of, run_of, block_of, AnswersAsked, CanEndAsked}
+use Rattle.zovatsemo.specs.Front.{latest, form_asked, block_form_asked, Asked, upgrade_of, study_of, run_of, block_of, AnswersAsked, CanEndAsked}
 
 pub no_memory : IsStop 10
 no_memory = search rules
@@ -60,11 +60,13 @@ pub study_ends_so : (wanted : Study) → CanStudyEnd wanted 10
 study_ends_so wanted = inr no_memory
 
 pub asked_nothing : (a : Asked) (contents : List ℕ → List ℕ) (taps : List Entry) (old : Option (List ℕ)) → AnswersAsked a contents taps 10 old old
+asked_nothing (upgrade_of policy) contents taps old = given_nothing _ old
 asked_nothing (study_of wanted) contents taps old = study_nothing wanted contents old
 asked_nothing (run_of form) contents taps old = given_nothing _ old
 asked_nothing (block_of form) contents taps old = given_nothing _ old
 
 pub asked_ends_so : (a : Asked) → CanEndAsked a 10
+asked_ends_so (upgrade_of policy) = inr no_memory
 asked_ends_so (study_of wanted) = inr no_memory
 asked_ends_so (run_of form) = inr no_memory
 asked_ends_so (block_of form) = inr no_memory

@@ -17,9 +17,10 @@ use Rattle.front_defs.specs.declared.view.View.TheVariants as view
 use Rattle.replay_app.specs.Answer.{IsGiven}
 use Rattle.replay_app.specs.Output.{Answers}
 use Rattle.replay_app.specs.Statuses.{CanEnd}
-use Rattle.replay_app.specs.Words.{Form, form_of, file_words}
+use Rattle.replay_app.specs.Words.{Form, check, form_of, file_words}
 use Rattle.block_replay.specs.Output.{IsBlockOutput}
 use Rattle.block_replay.specs.Words.{BlockForm, calm, CanBlockEnd, block_form_of, block_file_words}
+use Rattle.front_upgrade.specs.Upgraded.{IsUpgraded}
 use Rattle.study.specs.Files.{study_files, CanStudyEnd}
 use Rattle.study.specs.Studied.{IsAnswered}
 use Rattle.study.specs.declared.parts.Drive.{Drive}
@@ -108,8 +109,22 @@ study_by other files rate shown = None
 abbrev pub study_asked : Options → Option Study
 study_asked o = if has_words o then None else study_by o.command o.files.items (link_rate o.rate o.overhead) (study_view o.command o.view (measure o.block o.sizes))
 
+-- ---- a policy as one of version 3
+abbrev pub only_file : List (Bor (List ℕ)) → Option (Bor (List ℕ))
+only_file (p ∷ []) = Some p
+only_file files = None
+
+-- the policy that is written so; of all commands, `check` alone has one file
+abbrev pub upgrade_by : Bool → List (Bor (List ℕ)) → Option (Bor (List ℕ))
+upgrade_by upgrade files = if upgrade then only_file files else None
+
+abbrev pub upgrade_asked : Options → Option (Bor (List ℕ))
+upgrade_asked o = upgrade_by o.upgrade o.files.items
+
 -- ---- what a command line asks for
 pub data Asked : Type 0 where
+  -- the policy of this name as one of version 3
+  upgrade_of : List ℕ → Asked
   -- a study
   study_of : Study → Asked
   -- a run with the replayer's arguments
@@ -137,26 +152,40 @@ abbrev pub asked_by : Option Study → Asked → Asked
 asked_by (Some wanted) run = study_of wanted
 asked_by None run = run
 
+abbrev pub run_asked : Options → Asked
+run_asked o = asked_by (study_asked o) (words_asked o)
+
+-- an upgrade, or otherwise the study or the run
+abbrev pub asked_first : Option (Bor (List ℕ)) → Asked → Asked
+asked_first (Some policy) other = upgrade_of policy.now
+asked_first None other = other
+
 abbrev pub asked : Options → Asked
-asked o = asked_by (study_asked o) (words_asked o)
+asked o = asked_first (upgrade_asked o) (run_asked o)
 
 -- the names of the files that are read
 abbrev pub asked_files : Asked → List (List ℕ)
+asked_files (upgrade_of policy) = policy ∷ []
 asked_files (study_of wanted) = study_files wanted
 asked_files (run_of form) = file_words form
 asked_files (block_of form) = block_file_words form
 
 -- the output for the contents of these files and for taps, with its status
 abbrev pub AnswersAsked : Asked → (List ℕ → List ℕ) → List Entry → ℕ → Option (List ℕ) → Option (List ℕ) → Type 0
+AnswersAsked (upgrade_of policy) contents taps status old new = IsGiven (IsUpgraded (contents policy)) status old new
 AnswersAsked (study_of wanted) contents taps status old new = IsAnswered wanted contents status old new
 AnswersAsked (run_of form) contents taps status old new = Answers form contents taps status old new
 AnswersAsked (block_of form) contents taps status old new = IsGiven (IsBlockOutput form contents taps) status old new
 
 -- the status is possible
 abbrev pub CanEndAsked : Asked → ℕ → Type 0
+CanEndAsked (upgrade_of policy) status = CanEnd (check latest policy) status
 CanEndAsked (study_of wanted) status = CanStudyEnd wanted status
 CanEndAsked (run_of form) status = CanEnd form status
 CanEndAsked (block_of form) status = CanBlockEnd form status
+
+the_only_file_is_upgraded : (p t : Bor (List ℕ)) → (upgrade_by true (p ∷ []) ≡ Some p) × (upgrade_by false (p ∷ []) ≡ None) × (upgrade_by true (p ∷ t ∷ []) ≡ None)
+the_only_file_is_upgraded p t = (refl, refl, refl)
 
 a_link_with_overhead : link_rate (Some 1250000) 24 ≡ Some (record { bytes = 1250000; overhead = 24 })
 a_link_with_overhead = refl

@@ -1,12 +1,14 @@
 //! Second readings of a command's files, for messages and warnings. A pipe isn't read twice.
 use crate::asked::LATEST;
 use crate::files::front_of;
+use crate::reserved::tell_reserved;
 use crate::told::tell;
 use front_core::{
-    Fault, capture_of, name_shown, policy_of, size_detail, target_of, tell_found, tell_status,
-    tell_status_of, with_detail,
+    Fault, capture_of, line_at, name_shown, policy_of, size_detail, target_of, tell_found,
+    tell_status, tell_status_of, with_detail,
 };
 use front_defs::{Command, Options};
+use front_upgrade::reserved_in;
 use front_warnings::{Counts, Walk, capture_warnings, damage_text, policy_warnings};
 use outside_core::FileShelf;
 use replay_app::{Judged, Read as Reading, read_policy};
@@ -109,6 +111,36 @@ fn judged_again(rt: &HostRuntime, options: &Options<'_>) -> Result<Option<Judged
     match read_policy(rt.alloc(), LATEST, &mut FileShelf::new(rt.clone()?), name) {
         Ok(Reading::Accepted(judged)) => Ok(Some(judged)),
         _ => Ok(None),
+    }
+}
+
+/// Returns the message for an accepted policy that can't be written as one of version 3, from a
+/// second reading. Fails if out of memory.
+pub fn upgrade_text(
+    rt: &HostRuntime,
+    options: &Options<'_>,
+    fault: Fault,
+    name: &str,
+) -> Result<Option<Vec<u8>>, AllocError> {
+    if !options.upgrade || fault.kind != FaultKind::Policy || judged_again(rt, options)?.is_none() {
+        return Ok(None);
+    }
+    let Some(content) = front_of(rt, name)? else {
+        return Ok(None);
+    };
+    let Some(line) = line_at(&content, fault.place) else {
+        return Ok(None);
+    };
+    match reserved_in(line) {
+        Some((column, word)) => Ok(Some(tell_reserved(
+            rt.alloc(),
+            fault,
+            name,
+            line,
+            column,
+            word,
+        )?)),
+        None => Ok(None),
     }
 }
 

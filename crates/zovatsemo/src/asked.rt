@@ -1,8 +1,8 @@
-//! The study that options ask for.
+//! The upgrade or the study that options ask for.
 ghost use Rattle.std.specs.Prelude.{◌≡◌, IfSome};
 ghost use Rattle.sched_defs.specs.SendTime.{IsRate};
 ghost use Rattle.study.specs.Files.{HasLinkRate};
-ghost use Rattle.zovatsemo.specs.Front.{measure, size_view, run_view, study_view, link_rate, linked, linked_through, directed, replayed, sized, study_by, study_asked};
+ghost use Rattle.zovatsemo.specs.Front.{measure, upgrade_asked, only_file, size_view, run_view, study_view, link_rate, linked, linked_through, directed, replayed, sized, study_by, study_asked};
 
 use events_core::{MOST_OVERHEAD, MOST_RATE};
 use front_defs::{Command, Options, Sizes, has_words};
@@ -218,4 +218,25 @@ pub fn study_asked<'a>(options: &Options<'a>) -> Option<Study<'a>>
             measure(options.block, options.sizes),
         ),
     )
+}
+
+/// Returns the only file, if there is exactly one.
+fn only_file<'a>(files: &[&'a str]) -> Option<&'a str>
+    ensures { result ≡ only_file files.now }
+{
+    match files {
+        [file] => Some(file),
+        _ => None,
+    }
+}
+
+/// Returns the policy that the options ask to write as one of version 3, or none if they don't.
+pub fn upgrade_asked<'a>(options: &Options<'a>) -> Option<&'a str>
+    ensures { result ≡ upgrade_asked options.now }
+{
+    if options.upgrade {
+        only_file(&options.files)
+    } else {
+        None
+    }
 }

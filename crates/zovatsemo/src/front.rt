@@ -11,14 +11,15 @@ ghost use Rattle.block_replay.specs.Words.{block_file_words, CanBlockEnd};
 ghost use Rattle.front_core.specs.Catching.{told, kept_of, below_of};
 ghost use Rattle.study.specs.Files.{study_files, HasLinkRate, CanStudyEnd};
 ghost use Rattle.study.specs.Studied.{IsAnswered};
-ghost use Rattle.zovatsemo.specs.Front.{form_asked, block_form_asked, words_asked, asked, asked_files, AnswersAsked, CanEndAsked};
+ghost use Rattle.zovatsemo.specs.Front.{form_asked, block_form_asked, words_asked, run_asked, asked, asked_files, AnswersAsked, CanEndAsked};
 
-use crate::asked::{LATEST, study_asked};
+use crate::asked::{LATEST, study_asked, upgrade_asked};
 use block_core::BlockFabric;
 use block_replay::block_run_to;
 use fabric_core::{Fabric, FlatFabric};
 use front_core::Catching;
 use front_defs::{Options, words_of};
+use front_upgrade::upgrade;
 use outside_core::{Shelf, Sink};
 use replay_app::run_to;
 use std::alloc::Global;
@@ -143,8 +144,33 @@ fn run_words<S: Shelf, K: Sink>(
     }
 }
 
-/// Runs what the options ask for, and does nothing else: a study, or the replayer with the arguments
-/// that they give, which is `block_run_to` with the option for rank stores and otherwise `run_to`.
+/// Runs what the options ask for besides an upgrade: a study, or the replayer with the arguments
+/// that they give.
+fn run_asked<S: Shelf, K: Sink>(
+    alloc: Global,
+    options: &Options<'_>,
+    shelf: &mut S,
+    sink: &mut K,
+    taps: &mut Vec<Box<dyn Tap>>,
+) -> u8
+    requires lent { AreLent (S.lends shelf.old) (asked_files (run_asked options.now)) }
+
+    ensures answer { WhereTold (S.content shelf.old) (asked_files (run_asked options.now))
+        (λ contents.
+        AnswersAsked (run_asked options.now) contents (entries kind_of state_of taps.old.items) result
+        (K.written sink.old) (K.written sink.new)) }
+    ensures statuses { CanEndAsked (run_asked options.now) result }
+    ensures shelf_cause { result ≡ 8 → Rose (S.faults shelf.old) (S.faults shelf.new) }
+    ensures sink_cause { result ≡ 9 → Rose (K.faults sink.old) (K.faults sink.new) }
+{
+    match study_asked(options) {
+        Some(wanted) => run_study(alloc, options.block, &wanted, shelf, sink),
+        None => run_words(alloc, options, shelf, sink, taps),
+    }
+}
+
+/// Runs what the options ask for, and does nothing else: an upgrade, a study, or the replayer with the
+/// arguments that they give, which is `block_run_to` with the option for rank stores and otherwise `run_to`.
 /// Under `--plain`, the sink is the output itself.
 pub fn front_run<S: Shelf, K: Sink>(
     alloc: Global,
@@ -162,9 +188,9 @@ pub fn front_run<S: Shelf, K: Sink>(
     ensures shelf_cause { result ≡ 8 → Rose (S.faults shelf.old) (S.faults shelf.new) }
     ensures sink_cause { result ≡ 9 → Rose (K.faults sink.old) (K.faults sink.new) }
 {
-    match study_asked(options) {
-        Some(wanted) => run_study(alloc, options.block, &wanted, shelf, sink),
-        None => run_words(alloc, options, shelf, sink, taps),
+    match upgrade_asked(options) {
+        Some(policy) => upgrade(alloc, policy, shelf, sink),
+        None => run_asked(alloc, options, shelf, sink, taps),
     }
 }
 

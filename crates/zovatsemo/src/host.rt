@@ -1,5 +1,5 @@
 //! The environment of the entry point: arguments, files, standard output and standard error.
-use crate::again::{add_detail, tell_ending, warn};
+use crate::again::{add_detail, tell_ending, upgrade_text, warn};
 use crate::files::{front_of, tell_unread};
 use crate::front::{front_caught, front_run};
 use crate::output::{NO_OUTPUT, Output};
@@ -74,7 +74,10 @@ fn tell_of(rt: &HostRuntime, options: &Options<'_>, fault: Fault) -> Result<(), 
         None => None,
     };
     let policy = policy_for(rt, options, fault)?;
-    let text = tell_fault(rt.alloc(), fault, name, front, &policy)?;
+    let text = match upgrade_text(rt, options, fault, name)? {
+        Some(text) => text,
+        None => tell_fault(rt.alloc(), fault, name, front, &policy)?,
+    };
     tell(rt, &add_detail(rt, options, fault, &text)?);
     Ok(())
 }

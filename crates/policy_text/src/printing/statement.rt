@@ -4,14 +4,14 @@ ghost use Rattle.policy_text_defs.specs.declared.attribute.Attribute.TheVariants
 ghost use Rattle.policy_text_defs.specs.Phrase.{phrase_of};
 ghost use Rattle.policy_text_defs.specs.Sense.{sense_of};
 ghost use Rattle.policy_text.specs.Printing.{vertex_text};
-ghost use Rattle.policy_text_defs.specs.Canonical.{span_text, attribute_text, attributes_text, limit_text, names_text, declaration_text, assignment_text, statement_text};
+ghost use Rattle.policy_text_defs.specs.Canonical.{span_text, attribute_text, attributes_text, unit_text, limit_text, keys_text, flow_text, queueing_text, names_text, declaration_text, assignment_text, statement_text};
 
 use crate::printing::condition::{put_between, put_guard};
 use crate::printing::expression::put_term;
 use crate::printing::test::put_alternatives;
 use list_core::Name;
-use policy_text_defs::{Attrs, Statement, Term};
-use rank_defs::Span;
+use policy_text_defs::{Attrs, Bound, Queueing, Statement, Term};
+use rank_defs::{FlowGroup, Span};
 use std::alloc::AllocError;
 use text_core::put_decimal;
 
@@ -71,14 +71,57 @@ fn put_slack(into: &mut Vec<u8>, slack: Option<u64>) -> Result<(), AllocError>
     put_decimal(into, slack as u128)
 }
 
-fn put_limit(into: &mut Vec<u8>, limit: Option<u32>) -> Result<(), AllocError>
-    ensures { OnOk result (into.new.items ≡ into.old.items ++ limit_text limit) }
+/// Appends the unit of a limit with the space before it, or nothing if it is in packets.
+fn put_unit(into: &mut Vec<u8>, bound: Bound) -> Result<(), AllocError>
+    ensures { OnOk result (into.new.items ≡ into.old.items ++ unit_text bound) }
+{
+    match bound {
+        Bound::Packets => Ok(()),
+        Bound::Bytes => into.extend_from_slice(b" bytes"),
+        Bound::PerFlow => into.extend_from_slice(b" per flow"),
+    }
+}
+
+fn put_limit(into: &mut Vec<u8>, bound: Bound, limit: Option<u32>) -> Result<(), AllocError>
+    ensures { OnOk result (into.new.items ≡ into.old.items ++ limit_text bound limit) }
 {
     let Some(limit) = limit else {
         return Ok(());
     };
     into.extend_from_slice(b" limit ")?;
-    put_decimal(into, limit as u128)
+    put_decimal(into, limit as u128)?;
+    put_unit(into, bound)
+}
+
+fn put_keys(into: &mut Vec<u8>, group: FlowGroup) -> Result<(), AllocError>
+    ensures { OnOk result (into.new.items ≡ into.old.items ++ keys_text group) }
+{
+    match group {
+        FlowGroup::Source => into.extend_from_slice(b"src"),
+        FlowGroup::Target => into.extend_from_slice(b"dst"),
+        FlowGroup::Hosts => into.extend_from_slice(b"src dst"),
+        FlowGroup::FiveTuple => into.extend_from_slice(b"5tuple"),
+    }
+}
+
+fn put_flow(into: &mut Vec<u8>, group: Option<FlowGroup>) -> Result<(), AllocError>
+    ensures { OnOk result (into.new.items ≡ into.old.items ++ flow_text group) }
+{
+    let Some(group) = group else {
+        return Ok(());
+    };
+    into.extend_from_slice(b" flow by ")?;
+    put_keys(into, group)
+}
+
+/// Appends the limits of a leaf or node, and by what it tells flows apart.
+fn put_queueing(into: &mut Vec<u8>, queueing: &Queueing) -> Result<(), AllocError>
+    ensures { OnOk result (into.new.items ≡ into.old.items ++ queueing_text queueing.now) }
+{
+    put_limit(into, Bound::Packets, queueing.packets)?;
+    put_limit(into, Bound::Bytes, queueing.bytes)?;
+    put_limit(into, Bound::PerFlow, queueing.per_flow)?;
+    put_flow(into, queueing.by)
 }
 
 /// Appends names, each with the space before it.
@@ -171,14 +214,15 @@ pub fn put_statement(into: &mut Vec<u8>, statement: &Statement) -> Result<(), Al
             put_attributes(into, attrs)?;
             put_alternatives(into, alternatives.as_slice())
         }
-        Statement::Leaf(name, used, attrs, limit, classes) => {
+        Statement::Leaf(name, used, attrs, queueing, classes) => {
             put_vertex(into, b"leaf ", name, used, attrs)?;
-            put_limit(into, *limit)?;
+            put_queueing(into, queueing)?;
             into.extend_from_slice(b" classes")?;
             put_names(into, classes.as_slice())
         }
-        Statement::Node(name, used, attrs, children) => {
+        Statement::Node(name, used, attrs, queueing, children) => {
             put_vertex(into, b"node ", name, used, attrs)?;
+            put_queueing(into, queueing)?;
             into.extend_from_slice(b" children")?;
             put_names(into, children.as_slice())
         }

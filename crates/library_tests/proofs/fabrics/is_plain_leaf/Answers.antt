@@ -14,4 +14,4 @@ returns-clause-plain c ended =
     (sym (ap (λ (p : Program). p.keeps) c.transaction-transaction.ensures.same) ∙ c.is_empty.ensures.0 c.if-not-is_empty.false))
     (of_root policy.tree c.checked.result.now (λ p. p.eaches) c.checked.ensures.program
     (sym (ap (λ (p : Program). p.eaches) c.transaction-transaction.ensures.same) ∙ c.is_empty-2.ensures.0 ended))
-    (c.is_root_limited.ensures.limit c.if-is_root_limited.false)
+    (c.is_root_limited.ensures.limits c.if-is_root_limited.false)

@@ -8,7 +8,7 @@ use Rattle.mapcheck_core.proofs.map_text.read_entries.Goals.{in-Some+in_ok-push,
 pub loop-line-init : goal.loop-line-init
 loop-line-init c =
     let none = sym (c.from_vec-entries.ensures ∙ c.new.ensures.items) in
-    record { give = subst (λ (es : List Entry). Give MapGives 1 [] (map line_of_entry es)) none (over 1); number = refl }
+    record { give = subst (λ (es : List Entry). Give (MapGives c.args.edition) 1 [] (map line_of_entry es)) none (over 1); number = refl }
 
 abbrev any_line : Line
 any_line = record { start = 0; end = 0; clean = false }
@@ -21,8 +21,8 @@ returns-in_err-entry-clause-fault c =
     let left = err_from_is_err_and c.from_residual-in_err-entry.result c.from_residual-in_err-entry.ensures.1 in
     let texts : map (line_text text) ls ≡ statements_of text = ap (map (line_text text)) c.as_slice-line-items.ensures ∙ c.in_ok-lines.ensures.texts in
     let number : c.loop-line.number + 1 ≡ i + 1 = ap (λ n. n + 1) c.loop-line.invariant.number in
-    let found = told_fault text ls i any_line (map line_of_entry c.loop-line.entries) (c.loop-line.number + 1) c.in_err-entry.field-0.0 texts c.loop-line-test.true c.loop-line.invariant.give number c.in_err-entry.ensures.fault in
-    rw left.1 (subst (λ (f : MapFault). (f ≡ fault.NoMemory) ⊎ ((n : ℕ) × (f ≡ fault.Line n) × IsFirstAtFault MapGives IsInNoForm (statements_of text) n)) (sym left.2) found)
+    let found = told_fault c.args.edition text ls i any_line (map line_of_entry c.loop-line.entries) (c.loop-line.number + 1) c.in_err-entry.field-0.0 texts c.loop-line-test.true c.loop-line.invariant.give number c.in_err-entry.ensures.fault in
+    rw left.1 (subst (λ (f : MapFault). (f ≡ fault.NoMemory) ⊎ ((n : ℕ) × (f ≡ fault.Line n) × IsFirstAtFault (MapGives c.args.edition) (IsInNoForm c.args.edition) (statements_of text) n)) (sym left.2) found)
 
 pub loop-line-preserved : goal.loop-line-preserved
 loop-line-preserved c =
@@ -32,15 +32,15 @@ loop-line-preserved c =
     let es = c.loop-line.entries in
     let entry = c.in_ok-entry.field-0 in
     let number : c.loop-line.number + 1 ≡ i + 1 = ap (λ n. n + 1) c.loop-line.invariant.number in
-    let here : MapGives (i + 1) (line_text text (get_or ls i any_line)) (option_to_list (option_map line_of_entry entry)) = subst (λ n. MapGives n (line_text text (get_or ls i any_line)) (option_to_list (option_map line_of_entry entry))) number c.in_ok-entry.ensures.ok in
-    let more = lines_more MapGives text ls i any_line (map line_of_entry es) (option_to_list (option_map line_of_entry entry)) c.loop-line-test.true c.loop-line.invariant.give here in
+    let here : MapGives c.args.edition (i + 1) (line_text text (get_or ls i any_line)) (option_to_list (option_map line_of_entry entry)) = subst (λ n. MapGives c.args.edition n (line_text text (get_or ls i any_line)) (option_to_list (option_map line_of_entry entry))) number c.in_ok-entry.ensures.ok in
+    let more = lines_more (MapGives c.args.edition) text ls i any_line (map line_of_entry es) (option_to_list (option_map line_of_entry entry)) c.loop-line-test.true c.loop-line.invariant.give here in
     elim c.match-branch-3.branch [
       | in-Some+in_ok-push w ↦
           let all : map line_of_entry es ++ option_to_list (option_map line_of_entry entry) ≡ map line_of_entry c.match-branch-3.entries =
           ap (λ (o : Option Entry). map line_of_entry es ++ option_to_list (option_map line_of_entry o)) w.in-Some.is ∙ sym (ap (map line_of_entry) (w.entries-is ∙ w.in_ok-push.ensures.ok) ∙ map-append line_of_entry es (w.in-Some.entry ∷ [])) in
-          record { give = subst (Give MapGives 1 (map (line_text text) (take (i + 1) ls))) all more; number = number }
+          record { give = subst (Give (MapGives c.args.edition) 1 (map (line_text text) (take (i + 1) ls))) all more; number = number }
       | in_default w ↦
           let all : map line_of_entry es ++ option_to_list (option_map line_of_entry entry) ≡ map line_of_entry c.match-branch-3.entries =
           ap (λ (o : Option Entry). map line_of_entry es ++ option_to_list (option_map line_of_entry o)) w.in_default.is ∙ append-nil (map line_of_entry es) ∙ sym (ap (map line_of_entry) w.entries-is) in
-          record { give = subst (Give MapGives 1 (map (line_text text) (take (i + 1) ls))) all more; number = number }
+          record { give = subst (Give (MapGives c.args.edition) 1 (map (line_text text) (take (i + 1) ls))) all more; number = number }
     ]

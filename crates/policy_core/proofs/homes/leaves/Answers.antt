@@ -45,7 +45,7 @@ loop-statement-preserved c = elim c.match-statement.branch [
   | in-Node w ↦
       subst (λ (n : ℕ). IsPassing c.args.lines.now c.args.classes.now c.in_ok-places.places.items (c.loop-statement.statement-index + 1) n c.match-statement.leaves.items) (sym w.node-is)
       (subst (λ (new : List ℕ). IsPassing c.args.lines.now c.args.classes.now c.in_ok-places.places.items (c.loop-statement.statement-index + 1) (c.loop-statement.node + 1) new) (sym (ap (λ (v : Vec ℕ Global). v.items) w.leaves-is))
-      (pass-node c.args.lines.now c.args.classes.now c.in_ok-places.places.items c.loop-statement.leaves.items c.loop-statement.statement-index c.loop-statement.node c.loop-statement-item.result _ _ _ _
+      (pass-node c.args.lines.now c.args.classes.now c.in_ok-places.places.items c.loop-statement.leaves.items c.loop-statement.statement-index c.loop-statement.node c.loop-statement-item.result _ _ _ _ _
       c.loop-statement-test.true c.loop-statement-item.is w.in-Node.is c.loop-statement.invariant))
   | in_default w ↦
       subst (λ (n : ℕ). IsPassing c.args.lines.now c.args.classes.now c.in_ok-places.places.items (c.loop-statement.statement-index + 1) n c.match-statement.leaves.items) (sym w.node-is)

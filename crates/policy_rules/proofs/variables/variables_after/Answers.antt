@@ -20,6 +20,6 @@ returns c = λ earlier line kept. elim c.in-Version.is [
   | inr (inr (inl (n, t, is))) ↦ same_at earlier line c.args.statement.now c.args.variables kept _ is refl refl
   | inr (inr (inr (inl (n, a, cs, is)))) ↦ same_at earlier line c.args.statement.now c.args.variables kept _ is refl refl
   | inr (inr (inr (inr (inl (n, a, ts, is))))) ↦ same_at earlier line c.args.statement.now c.args.variables kept _ is refl refl
-  | inr (inr (inr (inr (inr (inl (n, u, a, l, ns, is)))))) ↦ same_at earlier line c.args.statement.now c.args.variables kept _ is refl refl
-  | inr (inr (inr (inr (inr (inr (n, u, a, ns, is)))))) ↦ same_at earlier line c.args.statement.now c.args.variables kept _ is refl refl
+  | inr (inr (inr (inr (inr (inl (n, u, a, q, ns, is)))))) ↦ same_at earlier line c.args.statement.now c.args.variables kept _ is refl refl
+  | inr (inr (inr (inr (inr (inr (n, u, a, q, ns, is)))))) ↦ same_at earlier line c.args.statement.now c.args.variables kept _ is refl refl
 ]

@@ -9,14 +9,14 @@ first_broken-fault-requires-clause-topo c =
 
 pub returns-in-Ok-clause-read : goal.returns-in-Ok-clause-read
 returns-in-Ok-clause-read c = record {
-  read = map_answer c.args.policy.now.policy c.args.text.now _ c.in_ok-names.ensures.names c.read_map.result c.in-Ok.given c.in-Ok.is c.read_map.ensures.answer;
+  read = map_answer c.args.policy.now.policy c.args.text.now _ c.policy_edition.ensures _ c.in_ok-names.ensures.names c.read_map.result c.in-Ok.given c.in-Ok.is c.read_map.ensures.answer;
   verdict = subst (λ (s : Topology). IsVerdict s (topology c.args.middle.now) c.in-Ok.given c.first_broken-fault.result) c.topo.ensures.topology c.first_broken-fault.ensures;
 }
 
 pub returns-clause-read : goal.returns-clause-read
 returns-clause-read c =
     subst (λ (r : Refusal). IsMapRefused c.args.policy.now.policy c.args.text.now r.code r.place) (sym c.in_ok-told_of-in-Err.ensures.told)
-    (map_refused c.args.policy.now.policy c.args.text.now _ c.in_ok-names.ensures.names c.read_map.result c.in-Err.fault c.in-Err.is c.in_ok-told_of-in-Err.ensures.memory c.read_map.ensures.answer)
+    (map_refused c.args.policy.now.policy c.args.text.now _ c.policy_edition.ensures _ c.in_ok-names.ensures.names c.read_map.result c.in-Err.fault c.in-Err.is c.in_ok-told_of-in-Err.ensures.memory c.read_map.ensures.answer)
 
 pub returns-in-Ok-clause-verdict : goal.returns-in-Ok-clause-verdict
 returns-in-Ok-clause-verdict c =

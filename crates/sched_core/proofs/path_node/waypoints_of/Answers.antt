@@ -25,7 +25,7 @@ loop-digit-preserved c =
     record {
       node = child-number r c.address-digits.ensures.address c.loop-digit-test.true c.child-child.ensures.child;
       waypoints = waypoints-more _ _ c.loop-digit.waypoints.items c.push.new.self.items c.loop-digit.digit-index _ c.loop-digit.invariant.waypoints c.in_ok-push.ensures.items
-          (waypoint-made r c.waypoint_at.ensures.node c.waypoint_at.ensures.program c.waypoint_at.ensures.marks c.waypoint_at.ensures.told c.waypoint_at.ensures.push c.waypoint_at.ensures.pop
+          (waypoint-made r c.waypoint_at.ensures.node c.waypoint_at.ensures.program c.waypoint_at.ensures.group c.waypoint_at.ensures.marks c.waypoint_at.ensures.told c.waypoint_at.ensures.push c.waypoint_at.ensures.pop
           (child-marks r c.address-digits.ensures.address c.loop-digit-test.true _ c.child-child.ensures.address c.attrs.ensures.marks));
     }
 
@@ -40,4 +40,4 @@ returns c =
     let all : c.loop-digit.digit-index ≡ length class.leaf = omega (arith, c.loop-digit-test.false, c.loop-digit.auto.digit-index-end, ap length c.address-digits.ensures.address) in
     waypoints-whole _ class c.push-2.new.self.items c.loop-digit.digit-index
     (waypoints-more _ class c.loop-digit.waypoints.items c.push-2.new.self.items c.loop-digit.digit-index _ c.loop-digit.invariant.waypoints c.in_ok-push-2.ensures.items
-    (waypoint-made r c.waypoint_at-2.ensures.node c.waypoint_at-2.ensures.program c.waypoint_at-2.ensures.marks c.waypoint_at-2.ensures.told c.waypoint_at-2.ensures.push c.waypoint_at-2.ensures.pop (last-marks r (omega (arith, all))))) all
+    (waypoint-made r c.waypoint_at-2.ensures.node c.waypoint_at-2.ensures.program c.waypoint_at-2.ensures.group c.waypoint_at-2.ensures.marks c.waypoint_at-2.ensures.told c.waypoint_at-2.ensures.push c.waypoint_at-2.ensures.pop (last-marks r (omega (arith, all))))) all

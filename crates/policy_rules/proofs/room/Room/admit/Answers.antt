@@ -16,8 +16,8 @@ returns-in-Class-clause-room c = λ told earlier line room. elim c.in-Class.is [
 
 pub returns-in-Leaf-clause-room : goal.returns-in-Leaf-clause-room
 returns-in-Leaf-clause-room c = λ told earlier line room. elim c.in-Leaf.is [
-  | inl (n, u, a, l, ns, is) ↦ room_for earlier line _ _ (ap sense_of is) room refl (omega arith) (c.take_one-in-Leaf.ensures.one told) (omega arith) (omega arith) (omega arith)
-  | inr (n, u, a, ns, is) ↦ room_for earlier line _ _ (ap sense_of is) room refl (omega arith) (c.take_one-in-Leaf.ensures.one told) (omega arith) (omega arith) (omega arith)
+  | inl (n, u, a, q, ns, is) ↦ room_for earlier line _ _ (ap sense_of is) room refl (omega arith) (c.take_one-in-Leaf.ensures.one told) (omega arith) (omega arith) (omega arith)
+  | inr (n, u, a, q, ns, is) ↦ room_for earlier line _ _ (ap sense_of is) room refl (omega arith) (c.take_one-in-Leaf.ensures.one told) (omega arith) (omega arith) (omega arith)
 ]
 
 pub returns-in-Push-clause-room : goal.returns-in-Push-clause-room

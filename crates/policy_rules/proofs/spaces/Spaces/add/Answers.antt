@@ -17,9 +17,9 @@ returns-in_ok-add-in-Class c = λ earlier line are new. elim c.in-Class.is [
 
 pub returns-in_ok-add-in-Leaf : goal.returns-in_ok-add-in-Leaf
 returns-in_ok-add-in-Leaf c = λ earlier line are new. elim c.in-Leaf.is [
-  | inl (u, a, l, ns, is) ↦ node-more earlier c.args.self.now are line c.args.statement.now new c.in-Leaf.name c.add-in-Leaf.new.self _ (ap sense_of is) refl refl refl refl
+  | inl (u, a, q, ns, is) ↦ node-more earlier c.args.self.now are line c.args.statement.now new c.in-Leaf.name c.add-in-Leaf.new.self _ (ap sense_of is) refl refl refl refl
       (c.in_ok-add-in-Leaf.ensures.ok ∙ ap (with_name c.args.self.now.nodes) c.as_str-in-Leaf.ensures)
-  | inr (u, a, ns, is) ↦ node-more earlier c.args.self.now are line c.args.statement.now new c.in-Leaf.name c.add-in-Leaf.new.self _ (ap sense_of is) refl refl refl refl
+  | inr (u, a, q, ns, is) ↦ node-more earlier c.args.self.now are line c.args.statement.now new c.in-Leaf.name c.add-in-Leaf.new.self _ (ap sense_of is) refl refl refl refl
       (c.in_ok-add-in-Leaf.ensures.ok ∙ ap (with_name c.args.self.now.nodes) c.as_str-in-Leaf.ensures)
 ]
 

@@ -1,5 +1,6 @@
-use Rattle.sched_core.proofs.Prelude.{arith, ◌≡◌, ap, ◌∙◌, sym, List, subst, Packet, class_in, Policy, refilled, NodeState, class_of, way_in, Visit, after_pushes, ranks_pushed, policy_of, HaveValues}
-use Rattle.policy_defs.specs.Policy.{Class}
+use Rattle.sched_core.proofs.Prelude.{arith, ◌≡◌, ap, ◌∙◌, sym, List, subst, Packet, Flow, class_in, Policy, refilled, NodeState, class_of, way_in, Visit, after_pushes, ranks_pushed, policy_of, HaveValues}
+use Rattle.rank_defs.specs.FlowGroups.{grouped}
+use Rattle.policy_defs.specs.Policy.{Class, group_at}
 use Rattle.sched_core.proofs.ClassLeaves.{class-within, class-is}
 use Rattle.sched_core.proofs.RootWays.{ready, whole-way, room-at_leaf}
 use Rattle.sched_core.proofs.node_states.NodeStates.push_steps.Goals as goal
@@ -20,7 +21,7 @@ push_along-requires-clause-room c =
     let is : class_in policy.tree c.index-classes-packet.result ≡ class_of policy p =
     ap (class_in policy.tree) c.index-classes-packet.is
     ∙ class-is policy c.classes.result.now c.classes.ensures.classes p c.requires.known.class c.index-classes-packet.result (class-within policy c.classes.result.now c.classes.ensures.classes p c.requires.known.class) in
-    room-at_leaf policy.tree c.args.self.now.states.items c.as_mut_slice.result.now _ _ _ c.as_mut_slice.ensures.value is c.requires.room
+    room-at_leaf policy.tree c.args.self.now.states.items c.as_mut_slice.result.now _ _ (λ k. Flow (grouped (group_at policy k.leaf) p.flow)) c.as_mut_slice.ensures.value is c.requires.room
 
 pub returns-clause-digits : goal.returns-clause-digits
 returns-clause-digits c =

@@ -1,4 +1,9 @@
 use Rattle.sched_core.proofs.Prelude.{arith, ◌≡◌, ap, ◌∙◌, sym, ℕ, List, subst, Some, refl, Option, None, is_some, if◌then◌else◌, ◌==◌, true≢false, Packet, number_at, Policy, LeavesItsLeaf, way_out, after_pops, size-pop, policy_of, AreStates, leaf_number, policy_in}
+use Rattle.policy_defs.specs.Accepted.{IsAccepted}
+use Rattle.sched_defs.specs.Sound.{IsKnown}
+use Rattle.sched_defs.specs.SourceState.{left_with}
+use Rattle.sched_core.specs.Totals.{AreKept, AreSized, amounts_in, with_one_fewer}
+use Rattle.sched_core.proofs.LimitLaws.{kept-same, kept-sized, amounts-left}
 use Rattle.sched_core.proofs.Filling.{count-within, count-some, filled-left}
 use Rattle.sched_core.proofs.PoppedPackets.{taken, is_held, leaves, leaver-popped, departed-popped}
 use Rattle.sched_core.proofs.policy_state.PolicyState.release.Goals as goal
@@ -25,6 +30,19 @@ pop_steps-requires-clause-limit c =
     let r = c.requires.stands in
     (leaves (policy_in c.args.self.now) r.state c.args.number c.args.digits.now c.args.ranks.now r.has r.sound c.take.new.packet (sym (r.stood.held c.args.number) ∙ c.if-not-take.ensures.value)).ranks.low
 
+-- ---- the totals without the packet
+pub take_from_totals-requires : goal.take_from_totals-requires
+take_from_totals-requires c =
+    let policy : Policy = policy_in c.args.self.now in
+    let r = c.requires.stands in
+    let p : Packet = c.take.new.packet in
+    let held : r.state.held c.args.number ≡ Some p = sym (r.stood.held c.args.number) ∙ c.if-not-take.ensures.value in
+    record {
+      known = subst (λ (z : Policy). IsKnown z p) (sym c.pop_steps.ensures.policy) (r.sound.known c.args.number p held);
+      accepted = subst IsAccepted (sym c.pop_steps.ensures.policy) c.requires.accepted;
+      sized = subst (λ (z : Policy). AreSized z c.args.self.now.totals) (sym c.pop_steps.ensures.policy) (kept-sized policy c.args.self.now.totals (amounts_in policy r.state) r.stood.totals);
+    }
+
 pub index_mut-requires : goal.index_mut-requires
 index_mut-requires c =
     let policy : Policy = policy_in c.args.self.now in
@@ -43,8 +61,7 @@ overflow_sub-index_mut c =
     let held : r.state.held c.args.number ≡ Some p = sym (r.stood.held c.args.number) ∙ c.if-not-take.ensures.value in
     let is : c.leaf-leaf.result ≡ leaf_number policy p = c.leaf-leaf.ensures.number ∙ ap (λ (z : Policy). leaf_number z p) c.pop_steps.ensures.policy in
     let some = count-some policy c.requires.accepted p (r.sound.known c.args.number p held).class c.args.self.now.filled.items r.state r.stood.filled c.leaf-leaf.result is c.index_mut.result.now c.index_mut.ensures.value
-    (taken policy r.state c.args.number c.args.digits.now c.args.ranks.now r.has) r.has.popped
-    (leaves policy r.state c.args.number c.args.digits.now c.args.ranks.now r.has r.sound p held).leaf_is in
+    (taken policy r.state c.args.number c.args.digits.now c.args.ranks.now r.has) r.sound r.has.popped held in
     omega (arith, some)
 
 pub returns-clause-state : goal.returns-clause-state
@@ -58,9 +75,13 @@ returns-clause-state c = λ s sound own next.
           (c.pop_steps.ensures.states s.nodes own.nodes);
       held = λ n. c.take.ensures.rest n ∙ ap (λ (o : Option Packet). if n == c.args.number then None else o) (own.held n);
       filled = filled-left policy c.requires.accepted p (sound.known c.args.number p held).class c.args.self.now.filled.items s own.filled c.leaf-leaf.result is c.index_mut.result.now c.index_mut.ensures.value
-          (taken policy s c.args.number c.args.digits.now c.args.ranks.now next) next.popped
-          (leaves policy s c.args.number c.args.digits.now c.args.ranks.now next sound p held).leaf_is
+          (taken policy s c.args.number c.args.digits.now c.args.ranks.now next) sound next.popped held
           (policy_of c.pop_steps.new.self) c.pop_steps.ensures.policy;
+      totals = subst (λ (z : Policy). AreKept z c.take_from_totals.new.totals (amounts_in z (left_with policy s (taken policy s c.args.number c.args.digits.now c.args.ranks.now next) (Some p)))) (sym c.pop_steps.ensures.policy)
+          (kept-same policy c.take_from_totals.new.totals _ _ (amounts-left policy p s sound (taken policy s c.args.number c.args.digits.now c.args.ranks.now next) next.popped held)
+          (subst (λ (z : Policy). AreKept z c.take_from_totals.new.totals (with_one_fewer z p (amounts_in z s))) c.pop_steps.ensures.policy
+          (c.take_from_totals.ensures.kept (amounts_in (policy_of c.pop_steps.new.self) s)
+          (subst (λ (z : Policy). AreKept z c.args.self.now.totals (amounts_in z s)) (sym c.pop_steps.ensures.policy) own.totals))));
       few = omega (arith, own.few, size-pop s.tree (taken policy s c.args.number c.args.digits.now c.args.ranks.now next) next.popped);
       now = own.now;
     }

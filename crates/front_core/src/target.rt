@@ -1,9 +1,7 @@
 //! The key of a target that is at fault.
-use crate::breaks::part;
-use crate::detail::{Detail, Error, blanks, value_column};
-use crate::expected::say_quoted;
-use crate::near::nearest;
-use crate::wording::{say, say_around, say_number, say_short};
+use front_forms::{
+    Detail, Error, blanks, nearest, part, say, say_around, say_number, say_short, value_column,
+};
 use std::alloc::{AllocError, Global};
 use text_core::lines;
 use toml::{Table, Value};

@@ -1,0 +1,5 @@
+pub mod Prelude
+pub mod TextLaws
+pub mod UpgradeLaws
+pub mod OneLaws
+pub mod LineLaws

@@ -1,0 +1,25 @@
+use Rattle.sched_core.proofs.Prelude.{ap, ◌∙◌, sym, List, length, subst, on_ok_weaker, refilled, Policy, class_of, LeadsToLeaf, policy_of}
+use Rattle.sched_defs.proofs.Queued.{class_is_ready}
+use Rattle.sched_core.specs.Totals.{MayTotals, AreKept, AreSized, AreTotals, HaveRoomTo}
+use Rattle.sched_core.specs.declared.node_totals.NodeTotals.{NodeTotals}
+use Rattle.sched_core.proofs.LimitLaws.{path-inside, room-to}
+use Rattle.sched_core.proofs.limits.reserve_totals.Goals as goal
+
+pub reserve_along-requires : goal.reserve_along-requires
+reserve_along-requires c =
+    let policy : Policy = policy_of c.args.stations.now in
+    let leads : LeadsToLeaf policy.tree (class_of policy c.args.packet.now).leaf = (class_is_ready policy c.requires.accepted c.args.packet.now c.requires.known.class).leaf_address in
+    let sized = subst (AreSized policy) c.in-Some.is c.requires.sized in
+    record {
+      inside = path-inside policy _ leads c.path.result.now c.path.ensures.path (length c.as_mut_slice.result.now) (ap (λ (l : List NodeTotals). length l) c.as_mut_slice.ensures.value ∙ sized);
+    }
+
+pub returns-in-Some : goal.returns-in-Some
+returns-in-Some c =
+    let policy : Policy = policy_of c.args.stations.now in
+    let leads : LeadsToLeaf policy.tree (class_of policy c.args.packet.now).leaf = (class_is_ready policy c.requires.accepted c.args.packet.now c.requires.known.class).leaf_address in
+    let whole = refilled c.in-Some.nodes c.reserve_along.new.nodes (c.reserve_along.ensures.count ∙ ap (λ (l : List NodeTotals). length l) c.as_mut_slice.ensures.value) in
+    record {
+      room = on_ok_weaker c.reserve_along.result (λ h. subst (λ (l : List NodeTotals). HaveRoomTo policy (class_of policy c.args.packet.now).leaf l c.args.packet.now) (sym whole) (room-to policy _ leads c.path.result.now c.path.ensures.path c.reserve_along.new.nodes c.args.packet.now h)) c.reserve_along.ensures.room;
+      kept = λ values h. subst (λ (l : List NodeTotals). AreTotals policy l values) (sym whole) (c.reserve_along.ensures.totals policy values (subst (λ (l : List NodeTotals). AreTotals policy l values) (sym c.as_mut_slice.ensures.value) (subst (λ (o : MayTotals). AreKept policy o values) c.in-Some.is h)));
+    }

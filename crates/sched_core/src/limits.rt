@@ -1,0 +1,127 @@
+//! The totals that a policy's limits need.
+ghost use Rattle.std.specs.Prelude.{◌≡◌, true, length, IfOk, OnOk};
+ghost use Rattle.std.specs.List.{list_any};
+ghost use Rattle.tree_defs.specs.Tree.{nodes};
+ghost use Rattle.policy_defs.specs.Accepted.{IsAccepted};
+ghost use Rattle.sched_defs.specs.SourceState.{class_of, way_to};
+ghost use Rattle.sched_defs.specs.Sound.{IsKnown};
+ghost use Rattle.sched_core.specs.Agreement.{policy_of};
+ghost use Rattle.sched_core.specs.NodeTotals.{nothing};
+ghost use Rattle.sched_core.specs.Totals.{Values, AreTotals, AreFew, AreKept, AreSized, HaveLeafLimits, HasTotalsRoom, with_one_more, with_one_fewer, passes_on};
+
+use crate::node_states::NodeStates;
+use crate::node_totals::NodeTotals;
+use crate::totals::{add_along, passes_along, reserve_along, take_along};
+use packet_defs::Packet;
+use policy_core::Policy;
+use std::alloc::{AllocError, Global};
+
+/// Returns whether only leaves have limits, and these on packets alone. Then the packets in each
+/// leaf are all that limits need.
+fn has_leaf_limits(policy: &Policy) -> bool
+    ensures limits { result ≡ true →
+        HaveLeafLimits policy.now.policy (nodes policy.now.policy.tree) }
+{
+    for node in 0..policy.count() {
+        let limits = policy.limits(node);
+        if limits.bytes.is_some() || limits.per_flow.is_some() {
+            return false;
+        }
+        if limits.packets.is_some() && !policy.is_leaf(node) {
+            return false;
+        }
+    }
+    true
+}
+
+/// Returns the totals of all nodes without packets, by node number. The error means out of memory.
+fn first_totals(alloc: Global, policy: &Policy) -> Result<Vec<NodeTotals>, AllocError>
+    ensures totals { IfOk result (λ t. AreTotals policy.now.policy t.items (λ _. nothing)) }
+{
+    let count = policy.count();
+    let mut totals = Vec::with_capacity(alloc, count as usize)?;
+    for node in 0..count {
+        totals.push(NodeTotals::new(alloc, policy.limits(node), policy.group(node)))?;
+    }
+    Ok(totals)
+}
+
+/// Returns the totals of all nodes without packets, if the policy's limits need them. The error
+/// means out of memory.
+pub fn totals_of(alloc: Global, policy: &Policy) -> Result<Option<Vec<NodeTotals>>, AllocError>
+    ensures kept { IfOk result (λ t. AreKept policy.now.policy t (λ _. nothing)) }
+{
+    if has_leaf_limits(policy) {
+        return Ok(None);
+    }
+    Ok(Some(first_totals(alloc, policy)?))
+}
+
+/// Returns whether a packet would pass a limit on its path.
+pub fn passes_limits(totals: &[NodeTotals], stations: &NodeStates, packet: &Packet) -> bool
+    requires known { IsKnown (policy_of stations.now) packet.now }
+    requires accepted { IsAccepted (policy_of stations.now) }
+    requires sized { length totals.now ≡ nodes (policy_of stations.now).tree }
+    ensures passes { (values : Values) → AreTotals (policy_of stations.now) totals.now values →
+        result ≡ list_any (passes_on (policy_of stations.now) values packet.now)
+        (way_to (class_of (policy_of stations.now) packet.now).leaf) }
+{
+    passes_along(totals, stations.path(packet), packet)
+}
+
+/// Makes room for a packet at each node on its path. The error means out of memory.
+#[inline(always)]
+pub fn reserve_totals(
+    totals: &mut Option<Vec<NodeTotals>>,
+    stations: &NodeStates,
+    packet: &Packet,
+) -> Result<(), AllocError>
+    requires known { IsKnown (policy_of stations.now) packet.now }
+    requires accepted { IsAccepted (policy_of stations.now) }
+    requires sized { AreSized (policy_of stations.now) totals.old }
+    ensures room { OnOk result (HasTotalsRoom (policy_of stations.now) packet.now totals.new) }
+    ensures kept { (values : Values) → AreKept (policy_of stations.now) totals.old values →
+        AreKept (policy_of stations.now) totals.new values }
+{
+    match totals {
+        None => Ok(()),
+        Some(nodes) => reserve_along(nodes.as_mut_slice(), stations.path(packet), packet),
+    }
+}
+
+/// Adds a packet at each node on its path, where there is room for it. Takes no memory.
+#[inline(always)]
+pub fn add_to_totals(totals: &mut Option<Vec<NodeTotals>>, stations: &NodeStates, packet: &Packet)
+    requires known { IsKnown (policy_of stations.now) packet.now }
+    requires accepted { IsAccepted (policy_of stations.now) }
+    requires sized { AreSized (policy_of stations.now) totals.old }
+    requires room { HasTotalsRoom (policy_of stations.now) packet.now totals.old }
+    ensures kept { (values : Values) → AreKept (policy_of stations.now) totals.old values →
+        AreFew values → AreKept (policy_of stations.now) totals.new (with_one_more
+        (policy_of stations.now) packet.now values) }
+{
+    match totals {
+        None => (),
+        Some(nodes) => add_along(nodes.as_mut_slice(), stations.path(packet), packet),
+    }
+}
+
+/// Takes a packet out at each node on its path. Takes no memory.
+#[inline(always)]
+pub fn take_from_totals(
+    totals: &mut Option<Vec<NodeTotals>>,
+    stations: &NodeStates,
+    packet: &Packet,
+)
+    requires known { IsKnown (policy_of stations.now) packet.now }
+    requires accepted { IsAccepted (policy_of stations.now) }
+    requires sized { AreSized (policy_of stations.now) totals.old }
+    ensures kept { (values : Values) → AreKept (policy_of stations.now) totals.old values →
+        AreKept (policy_of stations.now) totals.new (with_one_fewer
+        (policy_of stations.now) packet.now values) }
+{
+    match totals {
+        None => (),
+        Some(nodes) => take_along(nodes.as_mut_slice(), stations.path(packet), packet),
+    }
+}
