@@ -1,5 +1,5 @@
 """Policies of version 3 in plain Python, by what docs/POLICY.md says of them: tokens, names, the statements `policy`, `class`, `leaf`
-and `node`, their canonical text, and the class of a packet. Nothing of the program is used.
+and `node`, their canonical text, and the class of a packet. Nothing of the program is used. plain_runs.py has what a run does.
 """
 import collections
 import re
@@ -7,8 +7,9 @@ import re
 import plain_fields as plain
 
 Class = collections.namedtuple("Class", "name attributes alternatives")
-Leaf = collections.namedtuple("Leaf", "name using attributes limit classes")
-Node = collections.namedtuple("Node", "name using attributes children")
+Leaf = collections.namedtuple("Leaf", "name using attributes queueing classes")
+Node = collections.namedtuple("Node", "name using attributes queueing children")
+Queueing = collections.namedtuple("Queueing", "packets bytes per_flow by", defaults=[None] * 4)  # limits, and by what flows are told apart
 Test = collections.namedtuple("Test", "negated subject values")  # ranges; version, address and bits; value and mask; or nothing
 
 MOST = {"vlan": 4095, "dscp": 63, "proto": 255, "sport": 65535, "dport": 65535, "len": 2**32 - 1, "pcp": 7, "ethertype": 65535}
@@ -17,7 +18,10 @@ ATTRIBUTES = {"prio": (0, 65535), "weight": (1, 65535), "slack": (0, 10**12)}
 RESERVED = frozenset("""policy transaction keep each push pop node leaf class using children classes when and or not min max if prio weight slack len
     now rank src dst sport dport proto dscp vlan ipv4 ipv6 tcp udp icmp shape limit""".split())
 LATER_RESERVED = frozenset("flow packets bytes per by tcpflags pcp ethertype any".split())  # in version 3 alone
-MOST_NUMBER, MOST_NAME, MOST_LIMIT, MOST_TEXT = 2**62 - 1, 64, 4194304, 1048576
+LIMITS = {"packets": 4194304, "bytes": 2**32 - 1, "per_flow": 4194304}  # the greatest ones
+UNITS = {"packets": "", "bytes": " bytes", "per_flow": " per flow"}
+KEYS = "src", "dst", "src dst", "5tuple"
+MOST_NUMBER, MOST_NAME, MOST_TEXT = 2**62 - 1, 64, 1048576
 NOT_TEXT, MALFORMED, SHAPING, TOO_LONG = 22, 23, 24, 21
 
 MARKS = r"\.\.|==|!=|<=|>=|[./+*(),=<>-]"
@@ -125,6 +129,38 @@ class Reader:
             found[word] = self.number(*ATTRIBUTES[word])
         return tuple((word, found[word]) for word in ATTRIBUTES if word in found)
 
+    def unit(self):
+        """What a limit counts."""
+        if self.ahead("per"):
+            self.need("flow")
+            return "per_flow"
+        return self.ahead("packets", "bytes") or "packets"
+
+    def keys(self):
+        """By what flows are told apart."""
+        first = self.word()
+        return "src dst" if first == "src" and self.ahead("dst") else first
+
+    def settings(self):
+        """The attributes of a leaf or node, and its limits and flows, in any order."""
+        found = {}
+        while (word := self.ahead(*ATTRIBUTES, "limit", "flow")) is not None:
+            if word == "limit":
+                value = self.number(1, LIMITS["bytes"])
+                word = self.unit()
+                is_right = value <= LIMITS[word]
+            elif word == "flow":
+                self.need("by")
+                word, value = "by", self.keys()
+                is_right = value in KEYS
+            else:
+                value, is_right = self.number(*ATTRIBUTES[word]), True
+            if word in found or not is_right:
+                raise Rejected
+            found[word] = value
+        queueing = Queueing(**{word: value for word, value in found.items() if word not in ATTRIBUTES})
+        return tuple((word, found[word]) for word in ATTRIBUTES if word in found), queueing
+
 
 # conditions -----------------------------------------------------------------
 
@@ -216,14 +252,9 @@ def statement(given):
     elif keyword in ("leaf", "node"):
         name = reader.name()
         reader.need("using")
-        using, attributes = reader.name(), reader.attributes()
-        if keyword == "node":
-            reader.need("children")
-            found = Node(name, using, attributes, reader.names())
-        else:
-            limit = reader.number(1, MOST_LIMIT) if reader.ahead("limit") else None
-            reader.need("classes")
-            found = Leaf(name, using, attributes, limit, reader.names())
+        using, (attributes, queueing) = reader.name(), reader.settings()
+        reader.need("classes" if keyword == "leaf" else "children")
+        found = (Leaf if keyword == "leaf" else Node)(name, using, attributes, queueing, reader.names())
     else:
         raise Rejected
     if reader.at < len(given):
@@ -284,6 +315,12 @@ def conditions_text(given):
     return " or ".join(" and ".join(map(test_text, tests)) for tests in given)
 
 
+def queueing_parts(given):
+    """The limits of packets, of bytes and for each flow, and then by what flows are told apart."""
+    limits = ["limit %d%s" % (value, UNITS[word]) for word in UNITS if (value := getattr(given, word)) is not None]
+    return limits + (["flow by " + given.by] if given.by else [])
+
+
 def text_of(found):
     """A statement in canonical text."""
     if isinstance(found, int):
@@ -291,8 +328,8 @@ def text_of(found):
     parts = ["%s %d" % pair for pair in found.attributes]
     if isinstance(found, Class):
         return " ".join(["class", found.name, *parts, *(["when " + conditions_text(found.alternatives)] if found.alternatives else [])])
+    parts += queueing_parts(found.queueing)
     if isinstance(found, Leaf):
-        parts += ["limit %d" % found.limit] if found.limit else []
         return " ".join(["leaf", found.name, "using", found.using, *parts, "classes", *found.classes])
     return " ".join(["node", found.name, "using", found.using, *parts, "children", *found.children])
 

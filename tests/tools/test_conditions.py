@@ -11,7 +11,9 @@ import sys
 import unittest
 from unittest import mock
 
+import built
 import condition_packets as packets
+import drawn_runs
 import link_packets as made
 import plain_captures
 import plain_fields
@@ -156,11 +158,10 @@ class Tool(unittest.TestCase):
                 for where, name, value in changes:
                     stack.enter_context(mock.patch.object(where, name, value))
                 return answer(words, folder)
-        with mock.patch.object(conditions.built.runner, "run_program", ask), mock.patch.object(conditions.built, "program", lambda *_,
-            **__: "/program"), \
-                mock.patch.object(conditions.os, "cpu_count", lambda: 1), mock.patch.object(sys, "argv",
+        with mock.patch.object(built.runner, "run_program", ask), mock.patch.object(built, "program", lambda *_, **__: "/program"), \
+                mock.patch.object(drawn_runs.os, "cpu_count", lambda: 1), mock.patch.object(sys, "argv",
                     ["conditions", "--runs", str(runs), "--seed", "7"]), contextlib.redirect_stdout(io.StringIO()) as shown:
-            status = conditions.main()
+            status = drawn_runs.main("conditions", None, conditions.Run)
         return status, shown.getvalue()
 
     def test_right_answers(self):
@@ -214,10 +215,10 @@ class Example(unittest.TestCase):
     """examples/conditions, of which docs/POLICY.md shows the answer."""
 
     def test_the_capture(self):
-        self.assertEqual(packets.example(), (conditions.built.EXAMPLES / "conditions/capture").read_bytes())
+        self.assertEqual(packets.example(), (built.EXAMPLES / "conditions/capture").read_bytes())
 
     def test_the_classes_are_those_of_the_page(self):
-        text, page = (conditions.built.EXAMPLES / "conditions/policy").read_text(), (HERE.parent.parent / "docs/POLICY.md").read_text()
+        text, page = (built.EXAMPLES / "conditions/policy").read_text(), (HERE.parent.parent / "docs/POLICY.md").read_text()
         classes = [one for one in plain.statements(text) if isinstance(one, plain.Class)]
         found = [plain.class_of(classes, *packet) for packet in plain_captures.packets(packets.example())]
         for name in {one.name for one in classes}:
