@@ -24,5 +24,6 @@ complete -c zovatsemo -l rate -x -d 'for size: a link of that rate instead of a 
 complete -c zovatsemo -s t -l tap -x -a 'bytes order first drops' -d 'one more line at the end of replay: bytes, order, first or drops'
 complete -c zovatsemo -l plain -d 'write the line `fault KIND CODE PLACE` too, and no messages'
 complete -c zovatsemo -l summary -d 'write sums of direct, replay or link instead of events'
+complete -c zovatsemo -l upgrade -d 'for check: print the policy as one of version 3'
 complete -c zovatsemo -s q -l quiet -d 'write no messages'
 complete -c zovatsemo -s V -l version -d 'the version'
