@@ -48,11 +48,16 @@ impl LeafTable {
     {
         let index = *self.paths.get(leaf_place(&self.arities, image))?;
         let path = paths.get(index as usize)?;
-        if path.image() == image {
-            Some(path)
-        } else {
-            None
+        let own = path.image.as_slice();
+        if own.len() != image.len() {
+            return None;
         }
+        for level in 0..own.len() {
+            if own[level] != image[level] {
+                return None;
+            }
+        }
+        Some(path)
     }
 
     /// Writes the address of the leaf with an image to `taken`, and for each node on the path to it,

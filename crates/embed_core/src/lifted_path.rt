@@ -15,7 +15,7 @@ use tree_core::Taken;
 /// image.
 #[derive(Drop)]
 pub struct LiftedPath {
-    image: Vec<u32>,
+    pub(crate) image: Vec<u32>,
     steps: Vec<u64>,
     address: Vec<u32>,
     depths: Vec<u64>,
@@ -47,6 +47,7 @@ impl LiftedPath {
     }
 
     /// Returns the leaf's image.
+    #[inline(always)]
     pub fn image(&self) -> &[u32]
         ensures image { result.now ≡ self.now.image.items }
     {
@@ -54,6 +55,7 @@ impl LiftedPath {
     }
 
     /// Writes the lift of the ranks on the path to the leaf to `lifted`.
+    #[inline(always)]
     pub fn lift(&self, ranks: &[u64], lifted: &mut [u64])
         requires within { AllByRecursion (λ step. step < length ranks.now) self.now.steps.items }
         requires long { length lifted.old ≡ length self.now.steps.items }

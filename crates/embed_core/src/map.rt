@@ -301,6 +301,7 @@ pub fn lift<W: Way>(map: &Map, way: &W, digits: &mut [u32], ranks: &mut [u64])
 
 /// Writes the address of the leaf with an image to `taken`, and for each node on the path to it,
 /// the rank at its image's depth.
+#[inline(never)]
 pub fn pick(map: &Map, digits: &[u32], ranks: &[u64], taken: &mut Taken)
     requires good { IsGoodMap (length digits.now) map.now }
     requires leaf { IsLeafImage map.now digits.now }

@@ -31,6 +31,11 @@ new_sound ar qs counts pushed count small n p = record {
   flow = flow_empty ar (queues_at ar qs 0 1 0) (new_empty ar qs n);
 }
 
+-- a queue of no entries is empty
+pub no_entries : (q : Queue) → length q ≡ 0 → q ≡ []
+no_entries [] e = refl
+no_entries (x ∷ q) e = absurd (omega (arith, e))
+
 -- ---- pushes
 pub pushed_queues : (ar : List ℕ) (old new : List Queue) (before : List ℕ) (pushed : ℕ) (digits ranks : List ℕ) (item : ℕ) → IsSound ar old before pushed → IsLeafAddress ar digits
     → new ≡ array_push ar old 0 1 0 digits ranks item → SameQueues (queues_at ar new 0 1 0) (push_along digits ranks item (queues_at ar old 0 1 0))

@@ -28,10 +28,6 @@ HasFlowsSoFar arities level flows begin width =
     (now : List ℕ) → ((j : ℕ) → j < begin → get_or now j 0 ≡ get_or flows j 0)
     → ((place : ℕ) → place < width → HasFlows (drop level arities) (flows_at (drop level arities) now begin width place)) → HasFlows arities (flows_at arities now 0 1 0)
 
-pub flows_first : (arities flows : List ℕ) (b w : ℕ) → b ≡ 0 → w ≡ 1 → HasFlowsSoFar arities 0 flows b w
-flows_first arities flows b w eb ew now same h =
-    subst (λ (z : ℕ). HasFlows arities (flows_at arities now z 1 0)) eb (subst (λ (z : ℕ). HasFlows arities (flows_at arities now b z 0)) ew (h 0 (omega (arith, ew))))
-
 pub flows_below : (d : ℕ) (ar now : List ℕ) (begin width place : ℕ) → place < width → get_or now (begin + place) 0 ≡ d
     → ((p : ℕ) → p < width * d → HasFlows ar (flows_at ar now (begin + width) (width * d) p)) → HasFlows (d ∷ ar) (flows_at (d ∷ ar) now begin width place)
 flows_below d ar now begin width place l e h = (
@@ -40,16 +36,15 @@ flows_below d ar now begin width place l e h = (
       subst (λ (f : Address → ℕ). HasFlows ar f) (sym (fun_ext (λ b. read-below ar now 0 d begin width place x b m))) (h (place * d + x) (child_place place d x width l m)),
 )
 
-pub flows_next : (arities old new : List ℕ) (level begin width b w : ℕ) → level < length arities → HasFlowsSoFar arities level old begin width
+pub flows_next : (arities old new : List ℕ) (level begin width b : ℕ) → level < length arities → HasFlowsSoFar arities level old begin width
     → ((j : ℕ) → j < begin → get_or new j 0 ≡ get_or old j 0) → ((j : ℕ) → begin ≤ j → j < begin + width → get_or new j 0 ≡ get_or arities level 0)
-    → b ≡ begin + width → w ≡ width * get_or arities level 0 → HasFlowsSoFar arities (level + 1) new b w
-flows_next arities old new level begin width b w l s kept here eb ew now same h =
+    → b ≡ begin + width → HasFlowsSoFar arities (level + 1) new b (width * get_or arities level 0)
+flows_next arities old new level begin width b l s kept here eb now same h =
     s now (λ j k. same j (omega (arith, eb, k)) ∙ kept j k)
     (λ place m. subst (λ (z : List ℕ). HasFlows z (flows_at z now begin width place)) (sym (drop_more arities level 0 l))
     (flows_below (get_or arities level 0) (drop (level + 1) arities) now begin width place m
     (same (begin + place) (omega (arith, eb, m)) ∙ here (begin + place) (omega arith) (omega (arith, m)))
-    (λ p k. subst (λ (z : ℕ). HasFlows (drop (level + 1) arities) (flows_at (drop (level + 1) arities) now z (width * get_or arities level 0) p)) eb
-    (subst (λ (z : ℕ). HasFlows (drop (level + 1) arities) (flows_at (drop (level + 1) arities) now b z p)) ew (h p (omega (arith, ew, k)))))))
+    (λ p k. subst (λ (z : ℕ). HasFlows (drop (level + 1) arities) (flows_at (drop (level + 1) arities) now z (width * get_or arities level 0) p)) eb (h p k))))
 
 pub flows_last : (arities old new : List ℕ) (level begin width : ℕ) → length arities ≤ level → HasFlowsSoFar arities level old begin width
     → ((j : ℕ) → j < begin → get_or new j 0 ≡ get_or old j 0) → ((j : ℕ) → begin ≤ j → j < begin + width → get_or new j 0 ≡ 1) → HasFlows arities (flows_at arities new 0 1 0)

@@ -7,9 +7,6 @@ pub record IsAt (arities : List ℕ) (count level begin width place : ℕ) : Typ
   pub within : place < width
   pub counted : begin + width * nodes (drop level arities) ≡ count
 
-pub at_root : (arities : List ℕ) (count : ℕ) → nodes arities ≡ count → IsAt arities count 0 0 1 0
-at_root arities count e = record { within = omega arith; counted = omega (arith, e) }
-
 pub at_index : (arities : List ℕ) (count level begin width place : ℕ) → IsAt arities count level begin width place → begin + place < count
 at_index arities count level begin width place s = place_within (drop level arities) begin width place count s.within (omega (arith, s.counted))
 
@@ -26,18 +23,16 @@ pub at_child_width : (arities : List ℕ) (count level begin width place : ℕ) 
 at_child_width arities count level begin width place l s =
     omega (arith, at_next arities count level begin width place l s, mul-le-mul_left (width * get_or arities level 0) (some_nodes (drop (level + 1) arities)))
 
-pub at_child : (arities : List ℕ) (count level begin width place x b w p : ℕ) → level < length arities → x < get_or arities level 0 → IsAt arities count level begin width place
-    → b ≡ begin + width → w ≡ width * get_or arities level 0 → p ≡ place * get_or arities level 0 + x → IsAt arities count (level + 1) b w p
-at_child arities count level begin width place x b w p l m s eb ew ep = record {
-  within = omega (arith, ew, ep, child_place place (get_or arities level 0) x width s.within m);
-  counted =
-      subst (λ (z : ℕ). z + w * nodes (drop (level + 1) arities) ≡ count) (sym eb)
-      (subst (λ (z : ℕ). (begin + width) + z * nodes (drop (level + 1) arities) ≡ count) (sym ew) (at_next arities count level begin width place l s));
-}
+pub at_child_place : (arities : List ℕ) (count level begin width place x : ℕ) → level < length arities → x < get_or arities level 0 → IsAt arities count level begin width place → place * get_or arities level 0 + x < count
+at_child_place arities count level begin width place x l m s =
+    omega (arith, at_child_width arities count level begin width place l s, child_place place (get_or arities level 0) x width s.within m)
 
--- the position that the walk has reached, as the code computed it
-pub placed_as : (P : ℕ → ℕ → ℕ → Type 0) (b c w v p q : ℕ) → b ≡ c → w ≡ v → p ≡ q → P c v q → P b w p
-placed_as P b c w v p q e f g h = subst (λ (z : ℕ). P z w p) (sym e) (subst (λ (z : ℕ). P c z p) (sym f) (subst (λ (z : ℕ). P c v z) (sym g) h))
+pub at_child : (arities : List ℕ) (count level begin width place x : ℕ) → level < length arities → x < get_or arities level 0 → IsAt arities count level begin width place
+    → IsAt arities count (level + 1) (begin + width) (width * get_or arities level 0) (place * get_or arities level 0 + x)
+at_child arities count level begin width place x l m s = record {
+  within = child_place place (get_or arities level 0) x width s.within m;
+  counted = at_next arities count level begin width place l s;
+}
 
 -- ---- the address of a leaf, from a level on
 pub leaf_length : (arities digits : List ℕ) → IsLeafAddress arities digits → length digits ≡ length arities

@@ -3,7 +3,7 @@ use Rattle.fabric_core.proofs.Prelude.{ℕ, arith, ◌≡◌, List, ◌+◌, [],
 use Rattle.fabric_core.proofs.ArrayReads.{read-root}
 use Rattle.fabric_core.proofs.FlowLaws.{names-taken, child-waits}
 use Rattle.fabric_core.proofs.PopLaws.{queues-child, flow-child}
-use Rattle.fabric_core.proofs.LevelWalks.{IsAt, placed_as, at_index, at_child}
+use Rattle.fabric_core.proofs.LevelWalks.{IsAt, at_index, at_child}
 use Rattle.fabric_core.proofs.ArrayUpdates.{entries-at, entries-set}
 
 -- the pop, given that its first digits and ranks were popped before
@@ -32,10 +32,10 @@ pub record IsPopping {Q : Type 0} (node : Ghosts Q) (arities : List ℕ) (old no
   pub pushes : map node.pushes now ≡ map node.pushes old
 
 module _ {Q : Type 0} (node : Ghosts Q) where
-  pub popping_first : (arities : List ℕ) (old : List Q) (digits ranks : List ℕ) (b w p : ℕ) → nodes arities ≡ length old → length digits ≡ length arities → length ranks ≡ length arities + 1
-      → IsFlow arities (queues_at arities (map node.entries old) 0 1 0) → queues_at arities (map node.entries old) 0 1 0 [] ≢ [] → b ≡ 0 → w ≡ 1 → p ≡ 0 → IsPopping node arities old old digits ranks 0 b w p
-  popping_first arities old digits ranks b w p count ld lr flow some eb ew ep =
-      placed_as (λ x y z. IsPopping node arities old old digits ranks 0 x y z) b 0 w 1 p 0 eb ew ep (record {
+  pub popping_first : (arities : List ℕ) (old : List Q) (digits ranks : List ℕ) → nodes arities ≡ length old → length digits ≡ length arities → length ranks ≡ length arities + 1
+      → IsFlow arities (queues_at arities (map node.entries old) 0 1 0) → queues_at arities (map node.entries old) 0 1 0 [] ≢ [] → IsPopping node arities old old digits ranks 0 0 1 0
+  popping_first arities old digits ranks count ld lr flow some =
+      record {
         here = record { within = omega arith; counted = omega (arith, count) };
         count = refl;
         digits_long = ld;
@@ -44,23 +44,23 @@ module _ {Q : Type 0} (node : Ghosts Q) where
         some = λ e. some (read-root arities (map node.entries old) [] 0 1 0 ∙ e);
         popping = resumed-none (array_pop arities (map node.entries old) 0 1 0);
         pushes = refl;
-      })
+      }
 
   -- the entry popped at the node reached
-  pub taken_here : (arities : List ℕ) (old now : List Q) (digits ranks : List ℕ) (level begin width place i : ℕ) (t : Taking) (e : Q) → IsPopping node arities old now digits ranks level begin width place → i ≡ begin + place
-      → take_least (node.entries (get_or now i e)) ≡ Some t → take_least (get_or (map node.entries now) (begin + place) []) ≡ Some t
-  taken_here arities old now digits ranks level begin width place i t e s ei p =
-      ap (λ (q : Queue). take_least q) (entries-at node now (begin + place) e (at_index arities (length now) level begin width place s.here) ∙ ap (λ (z : ℕ). (node.entries (get_or now z e))) (sym ei)) ∙ p
+  pub taken_here : (arities : List ℕ) (old now : List Q) (digits ranks : List ℕ) (level begin width place : ℕ) (t : Taking) (e : Q) → IsPopping node arities old now digits ranks level begin width place
+      → take_least (node.entries (get_or now (begin + place) e)) ≡ Some t → take_least (get_or (map node.entries now) (begin + place) []) ≡ Some t
+  taken_here arities old now digits ranks level begin width place t e s p =
+      ap (λ (q : Queue). take_least q) (entries-at node now (begin + place) e (at_index arities (length now) level begin width place s.here)) ∙ p
 
   -- the flow at the node reached, with its arity in front
   flow_here : (arities : List ℕ) (old now : List Q) (digits ranks : List ℕ) (level begin width place : ℕ) → level < length arities → IsPopping node arities old now digits ranks level begin width place
       → IsFlow (get_or arities level 0 ∷ drop (level + 1) arities) (queues_at (get_or arities level 0 ∷ drop (level + 1) arities) (map node.entries now) begin width place)
   flow_here arities old now digits ranks level begin width place l s = subst (λ (z : List ℕ). IsFlow z (queues_at z (map node.entries now) begin width place)) (drop_more arities level 0 l) s.flow
 
-  pub digit_taken : (arities : List ℕ) (old now : List Q) (digits ranks : List ℕ) (level begin width place i : ℕ) (t : Taking) (e : Q) → level < length arities → IsPopping node arities old now digits ranks level begin width place
-      → i ≡ begin + place → take_least (node.entries (get_or now i e)) ≡ Some t → t.value < get_or arities level 0
-  digit_taken arities old now digits ranks level begin width place i t e l s ei p =
-      names-taken (get_or arities level 0) (get_or (map node.entries now) (begin + place) []) t (flow_here arities old now digits ranks level begin width place l s).0 (taken_here arities old now digits ranks level begin width place i t e s ei p)
+  pub digit_taken : (arities : List ℕ) (old now : List Q) (digits ranks : List ℕ) (level begin width place : ℕ) (t : Taking) (e : Q) → level < length arities → IsPopping node arities old now digits ranks level begin width place
+      → take_least (node.entries (get_or now (begin + place) e)) ≡ Some t → t.value < get_or arities level 0
+  digit_taken arities old now digits ranks level begin width place t e l s p =
+      names-taken (get_or arities level 0) (get_or (map node.entries now) (begin + place) []) t (flow_here arities old now digits ranks level begin width place l s).0 (taken_here arities old now digits ranks level begin width place t e s p)
 
   popping_below : (arities : List ℕ) (old now : List Q) (digits ranks : List ℕ) (level begin width place : ℕ) (t : Taking) (c e : Q) → level < length arities → IsPopping node arities old now digits ranks level begin width place
       → take_least (get_or (map node.entries now) (begin + place) []) ≡ Some t → node.entries c ≡ t.rest → t.value < get_or arities level 0 → node.pushes c ≡ node.pushes (get_or now (begin + place) e)
@@ -73,7 +73,7 @@ module _ {Q : Type 0} (node : Ghosts Q) where
       = ap (λ (q : Queue). set (map node.entries now) (begin + place) q) (sym rest) ∙ sym (entries-set node now (begin + place) c) in
       record {
         here = subst (λ (n : ℕ). IsAt arities n (level + 1) (begin + width) (width * get_or arities level 0) (place * get_or arities level 0 + t.value)) (sym (length-set now (begin + place) c))
-            (at_child arities (length now) level begin width place t.value (begin + width) (width * get_or arities level 0) (place * get_or arities level 0 + t.value) l m s.here refl refl refl);
+            (at_child arities (length now) level begin width place t.value l m s.here);
         count = length-set now (begin + place) c ∙ s.count;
         digits_long = length-set digits level t.value ∙ s.digits_long;
         ranks_long = length-set ranks level t.rank ∙ s.ranks_long;
@@ -93,24 +93,20 @@ module _ {Q : Type 0} (node : Ghosts Q) where
         pushes = map-set_same node.pushes now (begin + place) c e pushes ∙ s.pushes;
       }
 
-  pub popping_next : (arities : List ℕ) (old now : List Q) (digits ranks : List ℕ) (level begin width place i b w p : ℕ) (t : Taking) (c e : Q) → level < length arities → IsPopping node arities old now digits ranks level begin width place
-      → i ≡ begin + place → take_least (node.entries (get_or now i e)) ≡ Some t → node.entries c ≡ t.rest → node.pushes c ≡ node.pushes (get_or now i e)
-      → b ≡ begin + width → w ≡ width * get_or arities level 0 → p ≡ place * get_or arities level 0 + t.value
-      → IsPopping node arities old (set now i c) (set digits level t.value) (set ranks level t.rank) (level + 1) b w p
-  popping_next arities old now digits ranks level begin width place i b w p t c e l s ei least rest pushes eb ew ep =
-      placed_as (λ x y z. IsPopping node arities old (set now i c) (set digits level t.value) (set ranks level t.rank) (level + 1) x y z) b (begin + width) w (width * get_or arities level 0) p (place * get_or arities level 0 + t.value) eb ew ep
-      (subst (λ (n : ℕ). node.pushes c ≡ node.pushes (get_or now n e) → IsPopping node arities old (set now n c) (set digits level t.value) (set ranks level t.rank) (level + 1) (begin + width) (width * get_or arities level 0) (place * get_or arities level 0 + t.value)) (sym ei)
-      (popping_below arities old now digits ranks level begin width place t c e l s (taken_here arities old now digits ranks level begin width place i t e s ei least) rest (digit_taken arities old now digits ranks level begin width place i t e l s ei least))
-      pushes)
+  pub popping_next : (arities : List ℕ) (old now : List Q) (digits ranks : List ℕ) (level begin width place : ℕ) (t : Taking) (c e : Q) → level < length arities → IsPopping node arities old now digits ranks level begin width place
+      → take_least (node.entries (get_or now (begin + place) e)) ≡ Some t → node.entries c ≡ t.rest → node.pushes c ≡ node.pushes (get_or now (begin + place) e)
+      → IsPopping node arities old (set now (begin + place) c) (set digits level t.value) (set ranks level t.rank) (level + 1) (begin + width) (width * get_or arities level 0) (place * get_or arities level 0 + t.value)
+  popping_next arities old now digits ranks level begin width place t c e l s least rest pushes =
+      popping_below arities old now digits ranks level begin width place t c e l s (taken_here arities old now digits ranks level begin width place t e s least) rest (digit_taken arities old now digits ranks level begin width place t e l s least) pushes
 
   -- the last step, at the leaf
-  pub popped_last : (arities : List ℕ) (old now : List Q) (digits ranks : List ℕ) (level begin width place end i : ℕ) (t : Taking) (c e : Q) → level ≡ end → end ≡ length arities → IsPopping node arities old now digits ranks level begin width place
-      → i ≡ begin + place → take_least (node.entries (get_or now i e)) ≡ Some t → node.entries c ≡ t.rest
-      → array_pop arities (map node.entries old) 0 1 0 ≡ Some (record { value = t.value; digits = digits; ranks = set ranks end t.rank; left = map node.entries (set now i c) })
-  popped_last arities old now digits ranks level begin width place end i t c e le l s ei least rest =
-      let p : take_least (get_or (map node.entries now) (begin + place) []) ≡ Some t = taken_here arities old now digits ranks level begin width place i t e s ei least in
-      let after : set (map node.entries now) (begin + place) t.rest ≡ map node.entries (set now i c)
-      = ap (λ (q : Queue). set (map node.entries now) (begin + place) q) (sym rest) ∙ ap (λ (z : ℕ). set (map node.entries now) z (node.entries c)) (sym ei) ∙ sym (entries-set node now i c) in
+  pub popped_last : (arities : List ℕ) (old now : List Q) (digits ranks : List ℕ) (level begin width place end : ℕ) (t : Taking) (c e : Q) → level ≡ end → end ≡ length arities → IsPopping node arities old now digits ranks level begin width place
+      → take_least (node.entries (get_or now (begin + place) e)) ≡ Some t → node.entries c ≡ t.rest
+      → array_pop arities (map node.entries old) 0 1 0 ≡ Some (record { value = t.value; digits = digits; ranks = set ranks end t.rank; left = map node.entries (set now (begin + place) c) })
+  popped_last arities old now digits ranks level begin width place end t c e le l s least rest =
+      let p : take_least (get_or (map node.entries now) (begin + place) []) ≡ Some t = taken_here arities old now digits ranks level begin width place t e s least in
+      let after : set (map node.entries now) (begin + place) t.rest ≡ map node.entries (set now (begin + place) c)
+      = ap (λ (q : Queue). set (map node.entries now) (begin + place) q) (sym rest) ∙ sym (entries-set node now (begin + place) c) in
       let ds : take level digits ++ [] ≡ digits = append-nil (take level digits) ∙ take_all level digits (omega (arith, le, l, s.digits_long)) in
       let rs : take level ranks ++ t.rank ∷ [] ≡ set ranks end t.rank
       = sym (take_more_set ranks level t.rank (omega (arith, l, s.ranks_long))) ∙ take_all (level + 1) (set ranks level t.rank) (omega (arith, l, s.ranks_long, length-set ranks level t.rank)) ∙ ap (λ (z : ℕ). set ranks z t.rank) le in

@@ -26,50 +26,39 @@ roomy_above : (d : ℕ) (ar now : List ℕ) (begin width place x : ℕ) (a : Add
 roomy_above d ar now begin width place x a l m h =
     (m, subst (λ (f : Address → ℕ). HasRoomAlong f a) (sym (fun_ext (λ b. read-below ar now 0 d begin width place x b l))) h)
 
-pub room_next : (arities digits spare : List ℕ) (level begin width place i k b w p : ℕ) → IsLeafAddress arities digits → level < length digits → begin + place < length spare
-    → HasRoomSoFar arities digits level spare begin width place → i ≡ begin + place → get_or spare (begin + place) 0 ≤ k → 1 ≤ k
-    → b ≡ begin + width → w ≡ width * get_or arities level 0 → p ≡ place * get_or arities level 0 + get_or digits level 0
-    → HasRoomSoFar arities digits (level + 1) (set spare i k) b w p
-room_next arities digits spare level begin width place i k b w p leaf l within s ei kept some eb ew ep now r h =
+pub room_next : (arities digits spare : List ℕ) (level begin width place k : ℕ) → IsLeafAddress arities digits → level < length digits → begin + place < length spare
+    → HasRoomSoFar arities digits level spare begin width place → get_or spare (begin + place) 0 ≤ k → 1 ≤ k
+    → HasRoomSoFar arities digits (level + 1) (set spare (begin + place) k) (begin + width) (width * get_or arities level 0) (place * get_or arities level 0 + get_or digits level 0)
+room_next arities digits spare level begin width place k leaf l within s kept some now r h =
     let la : level < length arities = omega (arith, leaf_length arities digits leaf) in
     let m : get_or digits level 0 < get_or arities level 0 = digit_below level arities digits leaf l in
-    let r' : IsRoomier (set spare (begin + place) k) now = subst (λ (z : ℕ). IsRoomier (set spare z k) now) ei r in
-    let here : 0 < get_or now (begin + place) 0 = omega (arith, r' (begin + place), get_or-set_same spare (begin + place) k 0 within, some) in
-    let h' : HasRoomAlong (room_at (drop (level + 1) arities) now (begin + width) (width * get_or arities level 0) (place * get_or arities level 0 + get_or digits level 0)) (drop (level + 1) digits)
-    = subst (λ (z : ℕ). HasRoomAlong (room_at (drop (level + 1) arities) now z (width * get_or arities level 0) (place * get_or arities level 0 + get_or digits level 0)) (drop (level + 1) digits)) eb
-    (subst (λ (z : ℕ). HasRoomAlong (room_at (drop (level + 1) arities) now b z (place * get_or arities level 0 + get_or digits level 0)) (drop (level + 1) digits)) ew
-    (subst (λ (z : ℕ). HasRoomAlong (room_at (drop (level + 1) arities) now b w z) (drop (level + 1) digits)) ep h)) in
-    s now (roomier_before spare now (begin + place) k within kept r')
+    let here : 0 < get_or now (begin + place) 0 = omega (arith, r (begin + place), get_or-set_same spare (begin + place) k 0 within, some) in
+    s now (roomier_before spare now (begin + place) k within kept r)
     (subst (λ (z : List ℕ). HasRoomAlong (room_at z now begin width place) (drop level digits)) (sym (drop_more arities level 0 la))
     (subst (λ (z : List ℕ). HasRoomAlong (room_at (get_or arities level 0 ∷ drop (level + 1) arities) now begin width place) z) (sym (drop_more digits level 0 l))
-    (roomy_above (get_or arities level 0) (drop (level + 1) arities) now begin width place (get_or digits level 0) (drop (level + 1) digits) m here h')))
+    (roomy_above (get_or arities level 0) (drop (level + 1) arities) now begin width place (get_or digits level 0) (drop (level + 1) digits) m here h)))
 
-pub room_last : (arities digits spare : List ℕ) (level begin width place i k : ℕ) → IsLeafAddress arities digits → length digits ≤ level → begin + place < length spare
-    → HasRoomSoFar arities digits level spare begin width place → i ≡ begin + place → get_or spare (begin + place) 0 ≤ k → 1 ≤ k
-    → HasRoomAlong (room_at arities (set spare i k) 0 1 0) digits
-room_last arities digits spare level begin width place i k leaf l within s ei kept some =
-    subst (λ (z : ℕ). HasRoomAlong (room_at arities (set spare z k) 0 1 0) digits) (sym ei)
-    (s (set spare (begin + place) k) (roomier_before spare (set spare (begin + place) k) (begin + place) k within kept (λ j. omega arith))
+pub room_last : (arities digits spare : List ℕ) (level begin width place k : ℕ) → IsLeafAddress arities digits → length digits ≤ level → begin + place < length spare
+    → HasRoomSoFar arities digits level spare begin width place → get_or spare (begin + place) 0 ≤ k → 1 ≤ k
+    → HasRoomAlong (room_at arities (set spare (begin + place) k) 0 1 0) digits
+room_last arities digits spare level begin width place k leaf l within s kept some =
+    s (set spare (begin + place) k) (roomier_before spare (set spare (begin + place) k) (begin + place) k within kept (λ j. omega arith))
     (subst (λ (z : List ℕ). HasRoomAlong (room_at z (set spare (begin + place) k) begin width place) (drop level digits)) (sym (drop_all level arities (omega (arith, l, leaf_length arities digits leaf))))
     (subst (λ (z : List ℕ). HasRoomAlong (room_at [] (set spare (begin + place) k) begin width place) z) (sym (drop_all level digits l))
-    (let here : 0 < get_or (set spare (begin + place) k) (begin + place) 0 = omega (arith, get_or-set_same spare (begin + place) k 0 within, some) in here))))
+    (let here : 0 < get_or (set spare (begin + place) k) (begin + place) 0 = omega (arith, get_or-set_same spare (begin + place) k 0 within, some) in here)))
 
 -- ---- the same on the queues
 module _ {Q : Type 0} (node : Ghosts Q) where
-  spare_kept : (qs : List Q) (n i k : ℕ) (e : Q) → n < length qs → i ≡ n → node.spare (get_or qs i e) ≤ k → get_or (map node.spare qs) n 0 ≤ k
-  spare_kept qs n i k e l ei m = let same : node.spare (get_or qs n e) ≤ k = subst (λ (z : ℕ). node.spare (get_or qs z e) ≤ k) ei m in omega (arith, spare-at node qs n e l, same)
+  pub room_next_queue : (arities digits : List ℕ) (qs : List Q) (level begin width place : ℕ) (c e : Q) → IsLeafAddress arities digits → level < length digits → begin + place < length qs
+      → HasRoomSoFar arities digits level (map node.spare qs) begin width place → node.spare (get_or qs (begin + place) e) ≤ node.spare c → 1 ≤ node.spare c
+      → HasRoomSoFar arities digits (level + 1) (map node.spare (set qs (begin + place) c)) (begin + width) (width * get_or arities level 0) (place * get_or arities level 0 + get_or digits level 0)
+  room_next_queue arities digits qs level begin width place c e leaf l within s kept some =
+      subst (λ (z : List ℕ). HasRoomSoFar arities digits (level + 1) z (begin + width) (width * get_or arities level 0) (place * get_or arities level 0 + get_or digits level 0)) (sym (spare-set node qs (begin + place) c))
+      (room_next arities digits (map node.spare qs) level begin width place (node.spare c) leaf l (omega (arith, within, length-spare node qs)) s (omega (arith, spare-at node qs (begin + place) e within, kept)) some)
 
-  pub room_next_queue : (arities digits : List ℕ) (qs : List Q) (level begin width place i b w p : ℕ) (c e : Q) → IsLeafAddress arities digits → level < length digits → begin + place < length qs
-      → HasRoomSoFar arities digits level (map node.spare qs) begin width place → i ≡ begin + place → node.spare (get_or qs i e) ≤ node.spare c → 1 ≤ node.spare c
-      → b ≡ begin + width → w ≡ width * get_or arities level 0 → p ≡ place * get_or arities level 0 + get_or digits level 0
-      → HasRoomSoFar arities digits (level + 1) (map node.spare (set qs i c)) b w p
-  room_next_queue arities digits qs level begin width place i b w p c e leaf l within s ei kept some eb ew ep =
-      subst (λ (z : List ℕ). HasRoomSoFar arities digits (level + 1) z b w p) (sym (spare-set node qs i c))
-      (room_next arities digits (map node.spare qs) level begin width place i (node.spare c) b w p leaf l (omega (arith, within, length-spare node qs)) s ei (spare_kept qs (begin + place) i (node.spare c) e within ei kept) some eb ew ep)
-
-  pub room_last_queue : (arities digits : List ℕ) (qs : List Q) (level begin width place i : ℕ) (c e : Q) → IsLeafAddress arities digits → length digits ≤ level → begin + place < length qs
-      → HasRoomSoFar arities digits level (map node.spare qs) begin width place → i ≡ begin + place → node.spare (get_or qs i e) ≤ node.spare c → 1 ≤ node.spare c
-      → HasRoomAlong (room_at arities (map node.spare (set qs i c)) 0 1 0) digits
-  room_last_queue arities digits qs level begin width place i c e leaf l within s ei kept some =
-      subst (λ (z : List ℕ). HasRoomAlong (room_at arities z 0 1 0) digits) (sym (spare-set node qs i c))
-      (room_last arities digits (map node.spare qs) level begin width place i (node.spare c) leaf l (omega (arith, within, length-spare node qs)) s ei (spare_kept qs (begin + place) i (node.spare c) e within ei kept) some)
+  pub room_last_queue : (arities digits : List ℕ) (qs : List Q) (level begin width place : ℕ) (c e : Q) → IsLeafAddress arities digits → length digits ≤ level → begin + place < length qs
+      → HasRoomSoFar arities digits level (map node.spare qs) begin width place → node.spare (get_or qs (begin + place) e) ≤ node.spare c → 1 ≤ node.spare c
+      → HasRoomAlong (room_at arities (map node.spare (set qs (begin + place) c)) 0 1 0) digits
+  room_last_queue arities digits qs level begin width place c e leaf l within s kept some =
+      subst (λ (z : List ℕ). HasRoomAlong (room_at arities z 0 1 0) digits) (sym (spare-set node qs (begin + place) c))
+      (room_last arities digits (map node.spare qs) level begin width place (node.spare c) leaf l (omega (arith, within, length-spare node qs)) s (omega (arith, spare-at node qs (begin + place) e within, kept)) some)

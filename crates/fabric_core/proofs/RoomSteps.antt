@@ -1,7 +1,7 @@
 -- The effect of a push and a pop on the free slots.
-use Rattle.fabric_core.proofs.Prelude.{ℕ, arith, ◌≡◌, List, ◌+◌, [], length, sym, ap, get_or, ◌∙◌, subst, ◌<◌, ◌∷◌, ◌*◌, ◌≤◌, map, refl, drop, set, inl, inr, eqb, get_or-set_other, get_or-set_same, ltb, ◌-◌, cases_Bool, eqb-false, eqb-true, drop_more, drop_all, Address, IsLeafAddress, nodes, room_at, ArrayTakesRoom, ArrayKeepsRoom, Ghosts}
+use Rattle.fabric_core.proofs.Prelude.{ℕ, arith, ◌≡◌, List, ◌+◌, [], length, sym, ap, get_or, ◌∙◌, subst, ◌<◌, ◌∷◌, ◌*◌, ◌≤◌, map, drop, set, inl, inr, eqb, get_or-set_other, get_or-set_same, ltb, ◌-◌, cases_Bool, eqb-false, eqb-true, drop_more, drop_all, Address, IsLeafAddress, nodes, room_at, ArrayTakesRoom, ArrayKeepsRoom, Ghosts}
 use Rattle.fabric_core.proofs.ArrayUpdates.{spare-at, spare-set, length-spare}
-use Rattle.fabric_core.proofs.LevelWalks.{IsAt, placed_as, at_index, leaf_length}
+use Rattle.fabric_core.proofs.LevelWalks.{IsAt, at_index, leaf_length}
 use Rattle.fabric_core.proofs.PushLaws.{array_take, array_take-along}
 use Rattle.fabric_core.proofs.ReserveSteps.{IsRoomier}
 
@@ -45,39 +45,27 @@ module _ {Q : Type 0} (node : Ghosts Q) where
   IsTaking arities digits old now level begin width place =
       array_take (drop level arities) (map node.spare now) begin width place (drop level digits) ≡ array_take arities (map node.spare old) 0 1 0 digits
 
-  pub taking_first : (arities digits : List ℕ) (old : List Q) (b w p : ℕ) → b ≡ 0 → w ≡ 1 → p ≡ 0 → IsTaking arities digits old old 0 b w p
-  taking_first arities digits old b w p eb ew ep = placed_as (λ x y z. IsTaking arities digits old old 0 x y z) b 0 w 1 p 0 eb ew ep refl
-
   -- one queue has one free slot fewer
   spare_taken : (qs : List Q) (i : ℕ) (c e : Q) → i < length qs → node.spare c + 1 ≡ node.spare (get_or qs i e) → map node.spare (set qs i c) ≡ set (map node.spare qs) i (get_or (map node.spare qs) i 0 - 1)
   spare_taken qs i c e l one = spare-set node qs i c ∙ ap (λ (n : ℕ). set (map node.spare qs) i n) (omega (arith, one, spare-at node qs i e l))
 
-  taking_below : (arities digits : List ℕ) (old qs : List Q) (level begin width place : ℕ) (c e : Q) → IsLeafAddress arities digits → level < length digits → begin + place < length qs
+  pub taking_next : (arities digits : List ℕ) (old qs : List Q) (level begin width place : ℕ) (c e : Q) → IsLeafAddress arities digits → level < length digits → IsAt arities (length qs) level begin width place
       → IsTaking arities digits old qs level begin width place → node.spare c + 1 ≡ node.spare (get_or qs (begin + place) e)
       → IsTaking arities digits old (set qs (begin + place) c) (level + 1) (begin + width) (width * get_or arities level 0) (place * get_or arities level 0 + get_or digits level 0)
-  taking_below arities digits old qs level begin width place c e leaf l within s one =
+  taking_next arities digits old qs level begin width place c e leaf l at s one =
+      let within : begin + place < length qs = at_index arities (length qs) level begin width place at in
       ap (λ (z : List ℕ). array_take (drop (level + 1) arities) z (begin + width) (width * get_or arities level 0) (place * get_or arities level 0 + get_or digits level 0) (drop (level + 1) digits)) (spare_taken qs (begin + place) c e within one)
       ∙ subst (λ (z : List ℕ). array_take z (map node.spare qs) begin width place (get_or digits level 0 ∷ drop (level + 1) digits) ≡ array_take arities (map node.spare old) 0 1 0 digits) (drop_more arities level 0 (omega (arith, l, leaf_length arities digits leaf)))
       (subst (λ (z : List ℕ). array_take (drop level arities) (map node.spare qs) begin width place z ≡ array_take arities (map node.spare old) 0 1 0 digits) (drop_more digits level 0 l) s)
 
-  pub taking_next : (arities digits : List ℕ) (old qs : List Q) (level begin width place i b w p : ℕ) (c e : Q) → IsLeafAddress arities digits → level < length digits → IsAt arities (length qs) level begin width place
-      → IsTaking arities digits old qs level begin width place → i ≡ begin + place → node.spare c + 1 ≡ node.spare (get_or qs i e)
-      → b ≡ begin + width → w ≡ width * get_or arities level 0 → p ≡ place * get_or arities level 0 + get_or digits level 0
-      → IsTaking arities digits old (set qs i c) (level + 1) b w p
-  taking_next arities digits old qs level begin width place i b w p c e leaf l at s ei one eb ew ep =
-      placed_as (λ x y z. IsTaking arities digits old (set qs i c) (level + 1) x y z) b (begin + width) w (width * get_or arities level 0) p (place * get_or arities level 0 + get_or digits level 0) eb ew ep
-      (subst (λ (n : ℕ). node.spare c + 1 ≡ node.spare (get_or qs n e) → IsTaking arities digits old (set qs n c) (level + 1) (begin + width) (width * get_or arities level 0) (place * get_or arities level 0 + get_or digits level 0)) (sym ei)
-      (taking_below arities digits old qs level begin width place c e leaf l (at_index arities (length qs) level begin width place at) s) one)
-
   -- the last step, at the leaf
-  pub taken_last : (arities digits : List ℕ) (old qs : List Q) (level begin width place i : ℕ) (c e : Q) → nodes arities ≡ length old → IsLeafAddress arities digits → length digits ≤ level → IsAt arities (length qs) level begin width place
-      → IsTaking arities digits old qs level begin width place → i ≡ begin + place → node.spare c + 1 ≡ node.spare (get_or qs i e)
-      → ArrayTakesRoom arities digits (map node.spare old) (map node.spare (set qs i c))
-  taken_last arities digits old qs level begin width place i c e count leaf l at s ei one b =
-      let within : i < length qs = omega (arith, ei, at_index arities (length qs) level begin width place at) in
-      let whole : map node.spare (set qs i c) ≡ array_take arities (map node.spare old) 0 1 0 digits
-      = spare_taken qs i c e within one
-      ∙ ap (λ (z : ℕ). set (map node.spare qs) z (get_or (map node.spare qs) z 0 - 1)) ei
+  pub taken_last : (arities digits : List ℕ) (old qs : List Q) (level begin width place : ℕ) (c e : Q) → nodes arities ≡ length old → IsLeafAddress arities digits → length digits ≤ level → IsAt arities (length qs) level begin width place
+      → IsTaking arities digits old qs level begin width place → node.spare c + 1 ≡ node.spare (get_or qs (begin + place) e)
+      → ArrayTakesRoom arities digits (map node.spare old) (map node.spare (set qs (begin + place) c))
+  taken_last arities digits old qs level begin width place c e count leaf l at s one b =
+      let within : begin + place < length qs = at_index arities (length qs) level begin width place at in
+      let whole : map node.spare (set qs (begin + place) c) ≡ array_take arities (map node.spare old) 0 1 0 digits
+      = spare_taken qs (begin + place) c e within one
       ∙ subst (λ (z : List ℕ). array_take z (map node.spare qs) begin width place (drop level digits) ≡ array_take arities (map node.spare old) 0 1 0 digits) (drop_all level arities (omega (arith, l, leaf_length arities digits leaf))) s in
       ap (λ (z : List ℕ). room_at arities z 0 1 0 b) whole
       ∙ array_take-along arities (map node.spare old) 0 1 0 digits b (omega arith) (omega (arith, count, length-spare node old)) leaf

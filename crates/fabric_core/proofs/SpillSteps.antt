@@ -4,7 +4,7 @@ use Rattle.std.specs.Int.{from_bool}
 use Rattle.embed_defs.specs.Spills.{spills_for, spills_at_leaf, spills_along, counted}
 use Rattle.fabric_core.proofs.ArrayReads.{read-below}
 use Rattle.fabric_core.proofs.PopLaws.{queues-child, flow-child}
-use Rattle.fabric_core.proofs.LevelWalks.{IsAt, placed_as, at_index, leaf_length, digit_below}
+use Rattle.fabric_core.proofs.LevelWalks.{IsAt, at_index, leaf_length, digit_below}
 
 counted_byte : (b : Bool) → from_bool b ≡ counted b
 counted_byte true = refl
@@ -77,13 +77,12 @@ pub record IsCounting {Q : Type 0} (node : Ghosts Q) (arities digits ranks : Lis
       → IsRest arities digits ranks (spills_along digits ranks (queues_at arities (map node.entries old) 0 1 0)) (map node.flows now) (map node.entries now) spilled level begin width place
 
 module _ {Q : Type 0} (node : Ghosts Q) (arities digits ranks : List ℕ) (old : List Q) where
-  pub counting_first : (b w p : ℕ) → b ≡ 0 → w ≡ 1 → p ≡ 0 → IsCounting node arities digits ranks old old 0 0 b w p
-  counting_first b w p eb ew ep =
-      placed_as (λ x y z. IsCounting node arities digits ranks old old 0 0 x y z) b 0 w 1 p 0 eb ew ep (record {
-        few = omega arith;
-        flows = refl;
-        rest = λ f w. record { flows = f; flow = w; spills = omega arith };
-      })
+  pub counting_first : IsCounting node arities digits ranks old old 0 0 0 1 0
+  counting_first = record {
+    few = omega arith;
+    flows = refl;
+    rest = λ f w. record { flows = f; flow = w; spills = omega arith };
+  }
 
   counting_below : (qs : List Q) (spilled level begin width place : ℕ) (c e : Q) (told : Bool) → IsLeafAddress arities digits → length ranks ≡ length digits + 1 → level < length digits
       → IsAt arities (length qs) level begin width place → IsCounting node arities digits ranks old qs spilled level begin width place
@@ -107,34 +106,27 @@ module _ {Q : Type 0} (node : Ghosts Q) (arities digits ranks : List ℕ) (old :
             (subst (λ (z : Queue). NamesBelow (node.flows (get_or qs (begin + place) e)) z → get_or digits level 0 < node.flows (get_or qs (begin + place) e) → told ≡ spills_for (get_or ranks level 0) (get_or digits level 0) z) (sym en) says))));
       }
 
-  pub counting_next : (qs : List Q) (spilled more level begin width place i v b w p : ℕ) (c e : Q) (told : Bool) → IsLeafAddress arities digits → length ranks ≡ length digits + 1 → level < length digits
-      → IsAt arities (length qs) level begin width place → IsCounting node arities digits ranks old qs spilled level begin width place → i ≡ begin + place → v ≡ get_or digits level 0
-      → (NamesBelow (node.flows (get_or qs i e)) (node.entries (get_or qs i e)) → v < node.flows (get_or qs i e) → told ≡ spills_for (get_or ranks level 0) v (node.entries (get_or qs i e)))
-      → more ≡ from_bool told → node.flows c ≡ node.flows (get_or qs i e)
-      → b ≡ begin + width → w ≡ width * get_or arities level 0 → p ≡ place * get_or arities level 0 + get_or digits level 0
-      → IsCounting node arities digits ranks old (set qs i c) (spilled + more) (level + 1) b w p
-  counting_next qs spilled more level begin width place i v b w p c e told leaf long l here s ei ev says em kept eb ew ep =
-      placed_as (λ x y z. IsCounting node arities digits ranks old (set qs i c) (spilled + more) (level + 1) x y z) b (begin + width) w (width * get_or arities level 0) p (place * get_or arities level 0 + get_or digits level 0) eb ew ep
-      (subst (λ (n : ℕ). IsCounting node arities digits ranks old (set qs i c) (spilled + n) (level + 1) (begin + width) (width * get_or arities level 0) (place * get_or arities level 0 + get_or digits level 0)) (sym em)
-      (subst (λ (n : ℕ). (NamesBelow (node.flows (get_or qs n e)) (node.entries (get_or qs n e)) → get_or digits level 0 < node.flows (get_or qs n e) → told ≡ spills_for (get_or ranks level 0) (get_or digits level 0) (node.entries (get_or qs n e)))
-      → node.flows c ≡ node.flows (get_or qs n e)
-      → IsCounting node arities digits ranks old (set qs n c) (spilled + from_bool told) (level + 1) (begin + width) (width * get_or arities level 0) (place * get_or arities level 0 + get_or digits level 0)) (sym ei)
-      (counting_below qs spilled level begin width place c e told leaf long l here s)
-      (subst (λ (z : ℕ). NamesBelow (node.flows (get_or qs i e)) (node.entries (get_or qs i e)) → z < node.flows (get_or qs i e) → told ≡ spills_for (get_or ranks level 0) z (node.entries (get_or qs i e))) ev says) kept))
+  pub counting_next : (qs : List Q) (spilled more level begin width place v : ℕ) (c e : Q) (told : Bool) → IsLeafAddress arities digits → length ranks ≡ length digits + 1 → level < length digits
+      → IsAt arities (length qs) level begin width place → IsCounting node arities digits ranks old qs spilled level begin width place → v ≡ get_or digits level 0
+      → (NamesBelow (node.flows (get_or qs (begin + place) e)) (node.entries (get_or qs (begin + place) e)) → v < node.flows (get_or qs (begin + place) e) → told ≡ spills_for (get_or ranks level 0) v (node.entries (get_or qs (begin + place) e)))
+      → more ≡ from_bool told → node.flows c ≡ node.flows (get_or qs (begin + place) e)
+      → IsCounting node arities digits ranks old (set qs (begin + place) c) (spilled + more) (level + 1) (begin + width) (width * get_or arities level 0) (place * get_or arities level 0 + get_or digits level 0)
+  counting_next qs spilled more level begin width place v c e told leaf long l here s ev says em kept =
+      subst (λ (n : ℕ). IsCounting node arities digits ranks old (set qs (begin + place) c) (spilled + n) (level + 1) (begin + width) (width * get_or arities level 0) (place * get_or arities level 0 + get_or digits level 0)) (sym em)
+      (counting_below qs spilled level begin width place c e told leaf long l here s
+      (subst (λ (z : ℕ). NamesBelow (node.flows (get_or qs (begin + place) e)) (node.entries (get_or qs (begin + place) e)) → z < node.flows (get_or qs (begin + place) e) → told ≡ spills_for (get_or ranks level 0) z (node.entries (get_or qs (begin + place) e))) ev says) kept)
 
   -- the last step, at the leaf
-  pub counted_last : (qs : List Q) (spilled more level begin width place i rank : ℕ) (e : Q) (told : Bool) → IsLeafAddress arities digits → length digits ≤ level
-      → IsAt arities (length qs) level begin width place → IsCounting node arities digits ranks old qs spilled level begin width place → i ≡ begin + place → rank ≡ get_or ranks level 0
-      → (node.flows (get_or qs i e) ≡ 1 → told ≡ spills_at_leaf rank (node.entries (get_or qs i e))) → more ≡ from_bool told
+  pub counted_last : (qs : List Q) (spilled more level begin width place rank : ℕ) (e : Q) (told : Bool) → IsLeafAddress arities digits → length digits ≤ level
+      → IsAt arities (length qs) level begin width place → IsCounting node arities digits ranks old qs spilled level begin width place → rank ≡ get_or ranks level 0
+      → (node.flows (get_or qs (begin + place) e) ≡ 1 → told ≡ spills_at_leaf rank (node.entries (get_or qs (begin + place) e))) → more ≡ from_bool told
       → HasFlows arities (flows_at arities (map node.flows old) 0 1 0) → IsFlow arities (queues_at arities (map node.entries old) 0 1 0)
       → spilled + more ≡ spills_along digits ranks (queues_at arities (map node.entries old) 0 1 0)
-  counted_last qs spilled more level begin width place i rank e told leaf l here s ei er says em f w =
+  counted_last qs spilled more level begin width place rank e told leaf l here s er says em f w =
       let within : begin + place < length qs = at_index arities (length qs) level begin width place here in
       let fl : get_or (map node.flows qs) (begin + place) 0 ≡ node.flows (get_or qs (begin + place) e) = get_or-map node.flows qs (begin + place) e 0 within in
       let en : get_or (map node.entries qs) (begin + place) [] ≡ node.entries (get_or qs (begin + place) e) = get_or-map node.entries qs (begin + place) e [] within in
-      let says_there : node.flows (get_or qs (begin + place) e) ≡ 1 → told ≡ spills_at_leaf rank (node.entries (get_or qs (begin + place) e))
-      = subst (λ (n : ℕ). node.flows (get_or qs n e) ≡ 1 → told ≡ spills_at_leaf rank (node.entries (get_or qs n e))) ei says in
       ap (λ (n : ℕ). spilled + n) em
       ∙ rest_last arities digits ranks (spills_along digits ranks (queues_at arities (map node.entries old) 0 1 0)) (map node.flows qs) (map node.entries qs) spilled level begin width place rank told leaf l (s.rest f w) er
       (subst (λ (z : ℕ). z ≡ 1 → told ≡ spills_at_leaf rank (get_or (map node.entries qs) (begin + place) [])) (sym fl)
-      (subst (λ (z : Queue). node.flows (get_or qs (begin + place) e) ≡ 1 → told ≡ spills_at_leaf rank z) (sym en) says_there))
+      (subst (λ (z : Queue). node.flows (get_or qs (begin + place) e) ≡ 1 → told ≡ spills_at_leaf rank z) (sym en) says))

@@ -4,13 +4,10 @@
 
 mod fabric;
 mod flat;
-mod levels;
 mod node;
-mod spot;
 mod walk;
 
 pub use fabric::Fabric;
 pub use flat::FlatFabric;
-pub use levels::empty_queues;
 pub use node::NodeQueue;
-pub use walk::{pop_along, push_along, reserve_along};
+pub use walk::{empty_queues, pop_along, push_along, reserve_along};

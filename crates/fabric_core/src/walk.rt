@@ -1,15 +1,16 @@
-//! Walks from the root of a complete tree of queues to a leaf.
-ghost use Rattle.std.specs.Prelude.{ℕ, ◌≡◌, ◌≢◌, ◌≤◌, ◌<◌, ◌+◌, ◌^◌, [], Some, length, map, OnOk};
+//! The queues of a complete tree in an array, level after level: how they are made, and the walks
+//! from the root to a leaf. A walk has `begin` nodes before the level that it has reached, the level
+//! has `width` nodes, and the walk is at the one with index `place` of these.
+ghost use Rattle.std.specs.Prelude.{ℕ, ◌≡◌, ◌≢◌, ◌≤◌, ◌<◌, ◌+◌, ◌^◌, [], true, length, map, slice_index_or, IfOk, OnOk};
 ghost use Rattle.std.specs.List.{AllByRecursion};
 ghost use Rattle.embed_defs.specs.Family.{IsLeafAddress, HasRoomAlong};
 ghost use Rattle.embed_defs.specs.Spills.{spills_along};
+ghost use Rattle.embed_defs.specs.Target.{IsTarget};
 ghost use Rattle.fabric_core.specs.Array.{nodes, queues_at, room_at, flows_at, array_push, ArrayPops, ArrayKeepsRoom, ArrayTakesRoom};
 ghost use Rattle.fabric_core.specs.Flow.{IsFlow, HasFlows};
-ghost use Rattle.pifo_core.specs.Taking.{Pops};
 
 use crate::node::NodeQueue;
-use crate::spot::Spot;
-use std::alloc::AllocError;
+use std::alloc::{AllocError, Global};
 
 /// Makes room for one more entry at each node on the path to a leaf.
 #[inline(always)]
@@ -28,12 +29,15 @@ pub fn reserve_along<Q: NodeQueue>(
     ensures pushes { map Q.pushes queues.new ≡ map Q.pushes queues.old }
     ensures flows { map Q.flows queues.new ≡ map Q.flows queues.old }
 {
-    let mut spot = Spot::root();
+    let (mut begin, mut width, mut place) = (0, 1, 0);
     for (level, digit) in digits.iter().enumerate() {
-        queues[spot.index()].make_room()?;
-        spot = spot.child(arities[level], *digit);
+        queues[begin + place].make_room()?;
+        let arity = arities[level] as usize;
+        begin += width;
+        width *= arity;
+        place = place * arity + *digit as usize;
     }
-    queues[spot.index()].make_room()
+    queues[begin + place].make_room()
 }
 
 /// Pushes a rank and the next digit at each inner node on the path to a leaf, and the last rank and
@@ -65,14 +69,17 @@ pub fn push_along<Q: NodeQueue>(
         result ≡ spills_along digits.now ranks.now (queues_at arities.now (map Q.entries queues.old) 0 1 0) }
     ensures few_spilled { result ≤ length digits.now + 1 }
 {
-    let mut spot = Spot::root();
+    let (mut begin, mut width, mut place) = (0, 1, 0);
     let mut spilled = 0;
     for (level, digit) in digits.iter().enumerate() {
-        let spills = queues[spot.index()].push_pair(ranks[level], u64::from(*digit));
+        let spills = queues[begin + place].push_pair(ranks[level], u64::from(*digit));
         spilled += u64::from(spills);
-        spot = spot.child(arities[level], *digit);
+        let arity = arities[level] as usize;
+        begin += width;
+        width *= arity;
+        place = place * arity + *digit as usize;
     }
-    let spills = queues[spot.index()].push_pair(ranks[digits.len()], item);
+    let spills = queues[begin + place].push_pair(ranks[digits.len()], item);
     spilled + u64::from(spills)
 }
 
@@ -97,29 +104,69 @@ pub fn pop_along<Q: NodeQueue>(
     ensures kept { ArrayKeepsRoom arities.now (map Q.spare queues.old) (map Q.spare queues.new) }
     ensures flows { map Q.flows queues.new ≡ map Q.flows queues.old }
 {
-    let mut spot = Spot::root();
+    let (mut begin, mut width, mut place) = (0, 1, 0);
     for (level, arity) in arities.iter().enumerate() {
-        let (rank, digit) = pop_one(&mut queues[spot.index()]);
+        let Some((rank, digit)) = queues[begin + place].pop_pair() else {
+            unreachable!()
+        };
         ranks[level] = rank;
         digits[level] = digit as u32;
-        spot = spot.child(*arity, digits[level]);
+        let arity = *arity as usize;
+        begin += width;
+        width *= arity;
+        place = place * arity + digit as usize;
     }
-    let (rank, item) = pop_one(&mut queues[spot.index()]);
+    let Some((rank, item)) = queues[begin + place].pop_pair() else {
+        unreachable!()
+    };
     ranks[arities.len()] = rank;
     item
 }
 
-/// Pops the next pair of a queue that isn't empty.
-#[inline(always)]
-fn pop_one<Q: NodeQueue>(queue: &mut Q) -> (u64, u64)
-    requires { Q.entries queue.old ≢ [] }
-    ensures taken { Pops (Q.entries queue.old) (Some result) (Q.entries queue.new) }
-    ensures pushes { Q.pushes queue.new ≡ Q.pushes queue.old }
-    ensures spare { Q.spare queue.old ≤ Q.spare queue.new }
-    ensures flows { Q.flows queue.new ≡ Q.flows queue.old }
+/// Makes an empty queue for each node of the complete tree of these arities.
+pub fn empty_queues<Q: NodeQueue + Drop>(
+    alloc: Global,
+    arities: &[u32],
+) -> Result<Vec<Q>, AllocError>
+    requires target { IsTarget arities.now }
+    ensures nodes { IfOk result (λ v. nodes arities.now ≡ length v.items) }
+    ensures small { IfOk result (λ v. length v.items < 2 ^ 32) }
+    ensures entries { IfOk result (λ v. AllByRecursion (λ q. q ≡ []) (map Q.entries v.items)) }
+    ensures pushes { IfOk result (λ v. AllByRecursion (λ n. n ≡ 0) (map Q.pushes v.items)) }
+    ensures flows { Q.tells ≡ true → IfOk result (λ v. HasFlows arities.now
+        (flows_at arities.now (map Q.flows v.items) 0 1 0)) }
 {
-    let Some(taken) = queue.pop_pair() else {
-        unreachable!()
-    };
-    taken
+    let mut queues = Vec::new(alloc);
+    let mut width = 1;
+    for arity in arities {
+        add_level(&mut queues, alloc, width, *arity)?;
+        width *= *arity as usize;
+    }
+    add_level(&mut queues, alloc, width, 1)?;
+    Ok(queues)
+}
+
+/// Adds the queues of a level of `width` nodes, with `count` flows each.
+fn add_level<Q: NodeQueue + Drop>(
+    queues: &mut Vec<Q>,
+    alloc: Global,
+    width: usize,
+    count: u32,
+) -> Result<(), AllocError>
+    requires some { 1 ≤ count }
+    ensures long { OnOk result (length queues.new.items ≡ length queues.old.items + width) }
+    ensures entries { AllByRecursion (λ q. q ≡ []) (map Q.entries queues.old.items) →
+        OnOk result (AllByRecursion (λ q. q ≡ []) (map Q.entries queues.new.items)) }
+    ensures pushes { AllByRecursion (λ n. n ≡ 0) (map Q.pushes queues.old.items) →
+        OnOk result (AllByRecursion (λ n. n ≡ 0) (map Q.pushes queues.new.items)) }
+    ensures kept { (j : ℕ) → j < length queues.old.items →
+        OnOk result (slice_index_or (map Q.flows queues.new.items) j 0 ≡ slice_index_or (map Q.flows queues.old.items) j 0) }
+    ensures flows { Q.tells ≡ true → (j : ℕ) → length queues.old.items ≤ j →
+        j < length queues.new.items →
+        OnOk result (slice_index_or (map Q.flows queues.new.items) j 0 ≡ count) }
+{
+    for _ in 0..width {
+        queues.push(Q::empty(alloc, count)?)?;
+    }
+    Ok(())
 }

@@ -1,12 +1,12 @@
 -- The class of a packet doesn't depend on its extra fields if no test names one.
-use Rattle.packet_core.proofs.Prelude.{◌∙◌, sym, ap, map, Class, Written, probe_of, test_of, tests_of, classes_of, List, ℕ, ◌≡◌, refl, Bool, true, false, ◌&&◌, [], ◌∷◌, position, position_or_len, length, Some, None, Header, Fields, ExtraFields, is_found, passes, belongs, class_among, asks, one_asks, list_all, HasClassOf, header_in, extra_of}
+use Rattle.packet_core.proofs.Prelude.{◌∙◌, ap, map, Class, Written, probe_of, test_of, tests_of, classes_of, List, ℕ, ◌≡◌, refl, false, ◌&&◌, [], ◌∷◌, position_or_len, length, Some, None, Fields, ExtraFields, is_found, passes, belongs, class_among, asks, one_asks, list_all, HasClassOf, header_in, extra_of}
 use Rattle.packet_defs.specs.Headers.{fields_in}
 use Rattle.policy_rules.specs.Resolved.{Resolved}
 use Rattle.std.specs.Prelude.{◌+◌, ◌||◌, not, cond, nat_lt, if◌then◌else◌}
 use Rattle.std.specs.List.{list_any}
 use Rattle.std.proofs.Common.{true≢false}
 use Rattle.std.proofs.lemmas.Bool.{or_parts}
-use Rattle.packet_defs.specs.Test.{TestField, named, pcp, ethertype, Probe, among, source, target, flags, ipv4, ipv6, v4, v6, Test}
+use Rattle.packet_defs.specs.Test.{named, pcp, ethertype, Probe, among, source, target, flags, ipv4, ipv6, v4, v6, Test}
 
 unasked-found : (f : Fields) (e g : ExtraFields) (n : ℕ) (p : Probe) → asks p ≡ false → is_found (record { fields = f; extra = e }) n p ≡ is_found (record { fields = f; extra = g }) n p
 unasked-found f e g n (among (named field) ranges) unasked = refl

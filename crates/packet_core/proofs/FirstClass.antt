@@ -1,8 +1,7 @@
 -- The first class to which a packet belongs, from its tests alone.
-use Rattle.packet_core.proofs.Prelude.{◌∙◌, sym, ap, arith, length, map, List, ℕ, ◌≡◌, refl, false, position, true, ◌<◌, Bool, None, Some, Option, [], ◌++◌, ◌∷◌, position_or_len, HasCatchAll, Class, position-map, Written, Header, belongs, class_among, tests_of, classes_of, GivesEach, length-map}
+use Rattle.packet_core.proofs.Prelude.{◌∙◌, sym, ap, arith, length, map, List, ℕ, ◌≡◌, refl, false, position, true, ◌<◌, Bool, None, Some, [], ◌++◌, ◌∷◌, position_or_len, HasCatchAll, Class, position-map, Written, Header, belongs, class_among, tests_of, classes_of, GivesEach, length-map}
 use Rattle.std.proofs.lemmas.Bool.{lt-ltb}
 use Rattle.std.proofs.lemmas.List.Quantifiers.{position-Some}
-use Rattle.packet_defs.specs.Test.{Test}
 
 pub class_among-classes : (header : Header) (n : ℕ) (classes : List Class)
     → position (λ (c : Class). belongs header n (tests_of c.conditions)) classes ≡ class_among (classes_of (map (λ c. c.conditions) classes)) header n

@@ -6,7 +6,7 @@ use Rattle.std.proofs.Math.Bool.{or-false}
 use Rattle.packet_core.specs.declared.bounds.Bounds.{Bounds}
 use Rattle.policy_text_defs.specs.declared.test.Range.{Range}
 use Rattle.packet_defs.specs.Test.{Test, is_in}
-use Rattle.packet_core.specs.declared.prepared.Prepared.{Prepared}
+use Rattle.packet_core.specs.declared.bounds.Prepared.{Prepared}
 use Rattle.packet_core.specs.declared.rules.Rules.{Rules}
 use Rattle.packet_core.specs.declared.rules.Alternatives.{Alternatives}
 use Rattle.packet_core.proofs.FirstClass.{class_among-classes}

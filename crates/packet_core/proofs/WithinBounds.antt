@@ -1,5 +1,6 @@
 -- Bounds on the numbers of a packet agree with the conditions that they were prepared from.
 use Rattle.packet_core.proofs.Prelude.{◌∙◌, sym, ap, arith, length, map, List, ℕ, ◌≡◌, refl, false, position, take, true, ◌+◌, ◌<◌, Bool, None, Option, Some, [], ◌++◌, ◌∷◌, ◌≤◌, drop, eqb, get_or, inl, inr, leb, lit<, min, ◌%◌, ◌&&◌, ◌*◌, ◌-◌, ◌/◌, ◌^◌, map-append, map_more, list_all-map, list_all, meets, agree, Field, dport, dscp, in_range, is_present_and, len, proto, sport, vlan, Fields, position-map, numbers_of, absent, address, number, place}
+use Rattle.std.specs.Option.{option_eq}
 use Rattle.std.proofs.lemmas.Bool.{cases_order, cases_lt, eq-eqb, ne_eqb, le-leb, lt-leb, and_left, and_right}
 use Rattle.std.proofs.lemmas.Bool.Decides.{nat_tests}
 use Rattle.std.proofs.lemmas.Nat.{div-add-mod', mul-add-lt, shl_whole, one_shl, pow_pos, shr_le, shr_split}
@@ -73,6 +74,10 @@ field-holds len fields n low high few = refl
 
 one-number : (v w : ℕ) → (leb w v && leb v w) ≡ eqb v w
 one-number v w = grind (arith, nat_tests)
+
+pub is-version : (o : Option ℕ) (version : ℕ) → option_eq eqb o (Some version) ≡ is_present_and (λ v. eqb v version) o
+is-version None version = refl
+is-version (Some v) version = refl
 
 pub version-holds : (o : Option ℕ) (version : ℕ) → version < absent → (leb version (number o) && leb (number o) version) ≡ is_present_and (λ v. eqb v version) o
 version-holds None version few = and_right _ _ (lt-leb absent version few)

@@ -12,7 +12,7 @@ use Rattle.policy_rules.specs.Resolved.{Resolved}
 use Rattle.packet_core.specs.Tests.{tests_of, classes_of}
 use Rattle.packet_core.specs.Numbers.{numbers_of, is_met}
 use Rattle.packet_core.specs.Rules.{one_passes}
-use Rattle.packet_core.specs.declared.prepared.Prepared.{Prepared}
+use Rattle.packet_core.specs.declared.bounds.Prepared.{Prepared}
 use Rattle.packet_core.specs.declared.rules.Alternatives.{Alternatives}
 
 -- each class is met by exactly the packets that belong to it

@@ -6,7 +6,7 @@ use Rattle.std.specs.List.{list_all}
 use Rattle.packet_defs.specs.declared.fields.Fields.{Fields}
 use Rattle.packet_defs.specs.Condition.{Field, vlan, dscp, proto, sport, dport, len, has_version}
 use Rattle.packet_core.specs.declared.bounds.Bounds.{Bounds}
-use Rattle.packet_core.specs.declared.prepared.Prepared.{Prepared}
+use Rattle.packet_core.specs.declared.bounds.Prepared.{Prepared}
 
 -- the value of an absent number, above every value that a condition allows
 abbrev pub absent : ℕ

@@ -1,35 +1,19 @@
 //! The classes of a policy, prepared for classifying many packets.
-ghost use Rattle.std.specs.Prelude.{◌≡◌, ◌≤◌, ℕ, Some, length, position};
-ghost use Rattle.std.specs.Prelude.{true, false};
-ghost use Rattle.packet_core.specs.Numbers as prepared;
+ghost use Rattle.std.specs.Prelude.{◌≡◌, ◌≤◌, length, true, false};
 ghost use Rattle.packet_core.specs.Tests.{classes_of};
 ghost use Rattle.packet_core.specs.Rules.{one_asks};
 ghost use Rattle.packet_core.specs.Classes.{AreSame, AreTested, GivesEach};
 
 use crate::asks::one_asks;
-use crate::classes::{bound_classes, place_met, place_passed, tested_classes};
-use crate::ethernet::{IPV4, IPV6, TYPE_PLACE, read_ethernet, tag, type_at, type_place};
+use crate::bounds::Prepared;
 use crate::extra::{no_extra, read_extra};
-use crate::flows::flow;
-use crate::headers::{ETHERNET, RAW, read_fields_in, read_raw};
-use crate::internet::{ipv4_fields, ipv6_fields, is_ipv4, is_ipv6, no_fields};
-use crate::numbers::{COUNT, numbers_of};
-use crate::prepared::Prepared;
-use crate::rules::Alternatives;
+use crate::internet::{flow, ipv4_fields, is_ipv4, read_u16};
+use crate::links::{ETHERNET, Frame, IPV4, RAW, read_fields_in, read_frame, read_payload};
+use crate::prepared::{bound_classes, first_met, numbers_of};
+use crate::rules::{Alternatives, place_passed, tested_classes};
 use packet_defs::{Fields, Header, Packet};
 use policy_core::Policy;
 use std::alloc::{AllocError, Global};
-
-/// Returns the index of the first class that is met, if there is one.
-fn first_met(classes: &[Prepared], numbers: &[u64; COUNT]) -> usize
-    ensures { (place : ℕ) → position (prepared.is_met numbers.now) classes.now ≡ Some place →
-        result ≡ place }
-{
-    match place_met(classes, numbers) {
-        Some(place) => place,
-        None => classes.len(),
-    }
-}
 
 /// The classes of a policy, prepared for classifying many packets.
 #[derive(Drop)]
@@ -50,10 +34,9 @@ pub struct Classifier<'a> {
 }
 
 impl<'a> Classifier<'a> {
-    ghost use Rattle.std.specs.Prelude.{◌≡◌, ◌<◌, ◌^◌, ℕ, Some, IfOk, length, true, false};
+    ghost use Rattle.std.specs.Prelude.{◌≡◌, ◌<◌, Some, IfOk, length, true, false};
     ghost use Rattle.packet_defs.specs.declared.extra.ExtraFields.{ExtraFields};
     ghost use Rattle.packet_defs.specs.Test.{class_among};
-    ghost use Rattle.packet_defs.specs.Internet.{ipv4_at, ipv6_at};
     ghost use Rattle.packet_defs.specs.Ethernet.{ethernet_fields};
     ghost use Rattle.packet_defs.specs.Extra.{header_in};
     ghost use Rattle.packet_core.specs.Tests.{classes_of};
@@ -93,7 +76,10 @@ impl<'a> Classifier<'a> {
             (record { fields = fields.now; extra = extra }) len ≡ Some result }
         ensures there { result < length (policy_of self.now).policy.classes }
     {
-        first_met(&self.classes, &numbers_of(fields, len)) as u32
+        match first_met(&self.classes, &numbers_of(fields, len)) {
+            Some(place) => place as u32,
+            None => unreachable!(),
+        }
     }
 
     /// Returns the first class to which a packet of this original length belongs, if the classes
@@ -165,52 +151,6 @@ impl<'a> Classifier<'a> {
         packet.flow = flow(fields);
     }
 
-    /// Sets the class and the flow of a packet with this VLAN id and an IPv4 header expected at
-    /// `at`.
-    #[inline(always)]
-    fn put_ipv4(&self, vlan: Option<u16>, bytes: &[u8], at: usize, packet: &mut Packet)
-        requires bounded { self.now.bounded ≡ true }
-        requires bound { at < 2 ^ 32 }
-        ensures { IsSortedByFields (policy_of self.now)
-            (record (ipv4_at at bytes.now) { vlan = vlan }) packet.old packet.new }
-    {
-        if is_ipv4(bytes, at) {
-            let fields = ipv4_fields(bytes, at);
-            self.put(&Fields { vlan, ..fields }, packet);
-        } else {
-            self.put(
-                &Fields {
-                    vlan,
-                    ..no_fields()
-                },
-                packet,
-            );
-        }
-    }
-
-    /// Sets the class and the flow of a packet with this VLAN id and an IPv6 header expected at
-    /// `at`.
-    #[inline(always)]
-    fn put_ipv6(&self, vlan: Option<u16>, bytes: &[u8], at: usize, packet: &mut Packet)
-        requires bounded { self.now.bounded ≡ true }
-        requires bound { at < 2 ^ 32 }
-        ensures { IsSortedByFields (policy_of self.now)
-            (record (ipv6_at at bytes.now) { vlan = vlan }) packet.old packet.new }
-    {
-        if is_ipv6(bytes, at) {
-            let fields = ipv6_fields(bytes, at);
-            self.put(&Fields { vlan, ..fields }, packet);
-        } else {
-            self.put(
-                &Fields {
-                    vlan,
-                    ..no_fields()
-                },
-                packet,
-            );
-        }
-    }
-
     /// Sets the class and the flow of a packet captured as an Ethernet frame.
     #[inline(always)]
     fn put_ethernet(&self, bytes: &[u8], packet: &mut Packet)
@@ -218,17 +158,18 @@ impl<'a> Classifier<'a> {
         ensures { IsSortedByFields (policy_of self.now) (ethernet_fields bytes.now) packet.old
             packet.new }
     {
-        let vlan = tag(bytes, TYPE_PLACE);
-        let place = type_place(vlan.is_some(), bytes);
-        match type_at(bytes, place) {
-            Some(IPV4) => self.put_ipv4(vlan, bytes, place + 2, packet),
-            Some(IPV6) => self.put_ipv6(vlan, bytes, place + 2, packet),
-            _ => self.put(&read_ethernet(bytes), packet),
+        let Frame { vlan, place } = read_frame(bytes);
+        let at = place + 2;
+        if is_ipv4(bytes, at) && read_u16(bytes, place) == IPV4 {
+            let fields = ipv4_fields(bytes, at);
+            return self.put(&Fields { vlan, ..fields }, packet);
         }
+        let fields = read_payload(bytes, place);
+        self.put(&Fields { vlan, ..fields }, packet);
     }
 
-    /// Sets the class and the flow of a packet with a less common link type. It is a call of its
-    /// own to keep `classify` short.
+    /// Sets the class and the flow of a packet with a less common header. It is a call of its own to
+    /// keep `classify` short.
     #[inline(never)]
     fn put_other(&self, link: u16, bytes: &[u8], packet: &mut Packet)
         requires { self.now.bounded ≡ true }
@@ -251,7 +192,6 @@ impl<'a> Classifier<'a> {
         match link {
             ETHERNET => self.put_ethernet(bytes, packet),
             RAW if is_ipv4(bytes, 0) => self.put(&ipv4_fields(bytes, 0), packet),
-            RAW => self.put(&read_raw(bytes), packet),
             _ => self.put_other(link, bytes, packet),
         }
     }

@@ -2,19 +2,13 @@
 ghost use Rattle.std.specs.Prelude.{◌≡◌, ◌≤◌, ◌<◌, ◌+◌, ◌^◌, length};
 ghost use Rattle.packet_defs.specs.Extra.{no_extra, priority_with, flags_of, ipv4_flags, ipv6_flags, carried_flags, carried_extra, payload_extra, ethernet_extra, cooked_extra, ipv4_extra, ipv6_extra, raw_extra, family_extra, null_extra, loop_extra, headed_extra, extra_of};
 
-use crate::bytes::{is_captured, read_u8, read_u16, read_u32};
-use crate::cooked::{
-    HEADER_LEN, HEADER_LEN_2, TYPE_PLACE as COOKED_TYPE, TYPE_PLACE_2 as COOKED_2_TYPE,
+use crate::internet::{
+    IPV6_LEN, TCP, behind_ipv4, is_first_fragment, is_ipv4, is_ipv6, read_u8, read_u16, read_u32,
 };
-use crate::ethernet::{
-    IPV4, IPV6, TYPE_PLACE, tag, tag_with, type_at, type_place, type_place_from,
-};
-use crate::headers::{
-    COOKED, COOKED_2, ETHERNET, LOOP, NULL, RAW, RAW_12, RAW_14, RAW_IPV4, RAW_IPV6,
-};
-use crate::internet::{IPV6_LEN, TCP, behind_ipv4, is_first_fragment, is_ipv4, is_ipv6};
-use crate::loopback::{
-    FAMILY_LEN, IPV4 as FAMILY_IPV4, IPV6_DARWIN, IPV6_FREEBSD, IPV6_OPENBSD, host_family,
+use crate::links::{
+    COOKED, COOKED_2, COOKED_2_LEN, COOKED_2_TYPE, COOKED_LEN, COOKED_TYPE, ETHERNET, FAMILY_IPV4,
+    FAMILY_LEN, IPV4, IPV6, IPV6_DARWIN, IPV6_FREEBSD, IPV6_OPENBSD, LOOP, NULL, RAW, RAW_12,
+    RAW_14, RAW_IPV4, RAW_IPV6, TYPE_PLACE, host_family, read_frame, tag, type_at, type_place_from,
 };
 use packet_defs::ExtraFields;
 
@@ -39,7 +33,7 @@ fn priority_with(bytes: &[u8], at: usize, id: usize) -> Option<u8>
     requires bound { id < 2 ^ 33 }
     ensures { result ≡ priority_with at id bytes.now }
 {
-    if !is_captured(bytes, 4, id) || tag_with(bytes, at, id).is_none() {
+    if id + 4 > bytes.len() || tag(bytes, at, id).is_none() {
         return None;
     }
     Some((read_u16(bytes, id) >> 13) as u8)
@@ -50,7 +44,7 @@ fn flags_of(proto: u8, bytes: &[u8], at: usize) -> Option<u8>
     requires { at < 2 ^ 63 }
     ensures { result ≡ flags_of proto at bytes.now }
 {
-    if proto == TCP && is_captured(bytes, UP_TO_FLAGS, at) {
+    if proto == TCP && at + UP_TO_FLAGS <= bytes.len() {
         Some(read_u8(bytes, at + 13))
     } else {
         None
@@ -117,9 +111,8 @@ fn payload_extra(pcp: Option<u8>, bytes: &[u8], at: usize) -> ExtraFields
 fn ethernet_extra(bytes: &[u8]) -> ExtraFields
     ensures { result ≡ ethernet_extra bytes.now }
 {
-    let tagged = tag(bytes, TYPE_PLACE).is_some();
     let pcp = priority_with(bytes, TYPE_PLACE, TYPE_PLACE + 2);
-    payload_extra(pcp, bytes, type_place(tagged, bytes))
+    payload_extra(pcp, bytes, read_frame(bytes).place)
 }
 
 /// Reads the extra fields of a packet whose cooked header has the protocol type at `at` and ends at
@@ -129,7 +122,7 @@ fn cooked_extra(bytes: &[u8], at: usize, end: usize) -> ExtraFields
     requires bound { end < 2 ^ 16 }
     ensures { result ≡ cooked_extra at end bytes.now }
 {
-    if tag_with(bytes, at, end).is_none() {
+    if tag(bytes, at, end).is_none() {
         return carried_extra(None, type_at(bytes, at), bytes, end);
     }
     let pcp = priority_with(bytes, at, end);
@@ -194,7 +187,7 @@ fn family_extra(family: u32, bytes: &[u8]) -> ExtraFields
 fn null_extra(bytes: &[u8]) -> ExtraFields
     ensures { result ≡ null_extra bytes.now }
 {
-    if !is_captured(bytes, FAMILY_LEN, 0) {
+    if bytes.len() < FAMILY_LEN {
         return no_extra();
     }
     family_extra(host_family(bytes), bytes)
@@ -204,7 +197,7 @@ fn null_extra(bytes: &[u8]) -> ExtraFields
 fn loop_extra(bytes: &[u8]) -> ExtraFields
     ensures { result ≡ loop_extra bytes.now }
 {
-    if !is_captured(bytes, FAMILY_LEN, 0) {
+    if bytes.len() < FAMILY_LEN {
         return no_extra();
     }
     family_extra(read_u32(bytes, 0), bytes)
@@ -218,8 +211,8 @@ fn headed_extra(link: u16, bytes: &[u8]) -> ExtraFields
         ETHERNET => ethernet_extra(bytes),
         NULL => null_extra(bytes),
         LOOP => loop_extra(bytes),
-        COOKED => cooked_extra(bytes, COOKED_TYPE, HEADER_LEN),
-        COOKED_2 => cooked_extra(bytes, COOKED_2_TYPE, HEADER_LEN_2),
+        COOKED => cooked_extra(bytes, COOKED_TYPE, COOKED_LEN),
+        COOKED_2 => cooked_extra(bytes, COOKED_2_TYPE, COOKED_2_LEN),
         _ => no_extra(),
     }
 }

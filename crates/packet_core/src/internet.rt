@@ -1,10 +1,13 @@
-//! IP headers, and the ports after them.
-ghost use Rattle.std.specs.Prelude.{◌≡◌, ◌≤◌, ◌<◌, ◌+◌, ◌*◌, ◌^◌, length, IsTrue};
-ghost use Rattle.packet_defs.specs.Bytes.{number_at};
-ghost use Rattle.packet_defs.specs.Internet.{no_fields, version_at, has_ports, port_at, is_ipv4, behind_ipv4, is_first_fragment, has_ipv4_ports, ipv4_fields, ipv4_at, is_ipv6, traffic_class, has_ipv6_ports, ipv6_fields, ipv6_at};
+//! Numbers in captured bytes, IP headers with the ports after them, and the flow of a packet.
+//! Numbers are in network byte order (big-endian) unless a name says otherwise.
+ghost use Rattle.std.specs.Prelude.{◌≡◌, ◌≤◌, ◌<◌, ◌+◌, ◌*◌, ◌^◌, length};
+ghost use Rattle.packet_defs.specs.Bytes.{number_at, little_number_at};
+ghost use Rattle.packet_defs.specs.Flow.{flow_of};
+ghost use Rattle.packet_defs.specs.Internet.{no_fields, is_ipv4, behind_ipv4, is_first_fragment, ipv4_fields, ipv4_at, is_ipv6, ipv6_fields, ipv6_at};
 
-use crate::bytes::{is_captured, read_u8, read_u16, read_u32, read_u128};
+use byteorder::{BigEndian, ByteOrder, LittleEndian};
 use packet_defs::Fields;
+use rank_defs::FlowKey;
 
 /// The length in bytes of an IPv4 header without options (RFC 791 3.1).
 const IPV4_LEN: usize = 20;
@@ -16,48 +19,51 @@ pub const TCP: u8 = 6;
 
 const UDP: u8 = 17;
 
-/// Returns the fields of a packet that has none.
-pub fn no_fields() -> Fields
-    ensures { result ≡ Rattle.packet_defs.specs.Internet.no_fields }
+#[inline(always)]
+pub fn read_u8(bytes: &[u8], at: usize) -> u8
+    requires { at + 1 ≤ length bytes.now }
+    ensures { result ≡ number_at 1 at bytes.now }
 {
-    Fields {
-        vlan: None,
-        version: None,
-        dscp: None,
-        proto: None,
-        source: None,
-        target: None,
-        sport: None,
-        dport: None,
-    }
+    bytes[at]
 }
 
-/// Returns whether this protocol has ports and the two of the header at this position are captured.
-fn has_ports(proto: u8, bytes: &[u8], at: usize) -> bool
-    requires { at + 4 < 2 ^ 64 }
-    ensures { result ≡ has_ports proto at bytes.now }
+#[inline(always)]
+pub fn read_u16(bytes: &[u8], at: usize) -> u16
+    requires { at + 2 ≤ length bytes.now }
+    ensures { result ≡ number_at 2 at bytes.now }
 {
-    (proto == TCP || proto == UDP) && is_captured(bytes, 4, at)
+    BigEndian::read_u16(&bytes[at..])
 }
 
-/// Returns the port at a position, if it is `there`.
-fn port(there: bool, bytes: &[u8], at: usize) -> Option<u16>
-    requires { IsTrue there → at + 2 ≤ length bytes.now }
-    ensures { result ≡ port_at there at bytes.now }
+#[inline(always)]
+pub fn read_u32(bytes: &[u8], at: usize) -> u32
+    requires { at + 4 ≤ length bytes.now }
+    ensures { result ≡ number_at 4 at bytes.now }
 {
-    if there {
-        Some(read_u16(bytes, at))
-    } else {
-        None
-    }
+    BigEndian::read_u32(&bytes[at..])
+}
+
+pub fn read_u32_little(bytes: &[u8], at: usize) -> u32
+    requires { at + 4 ≤ length bytes.now }
+    ensures { result ≡ little_number_at 4 at bytes.now }
+{
+    LittleEndian::read_u32(&bytes[at..])
+}
+
+pub fn read_u128(bytes: &[u8], at: usize) -> u128
+    requires { at + 16 ≤ length bytes.now }
+    ensures { result ≡ number_at 16 at bytes.now }
+{
+    BigEndian::read_u128(&bytes[at..])
 }
 
 /// Returns whether an IPv4 header begins at this position.
+#[inline(always)]
 pub fn is_ipv4(bytes: &[u8], at: usize) -> bool
     requires { at < 2 ^ 32 }
     ensures { result ≡ is_ipv4 at bytes.now }
 {
-    is_captured(bytes, IPV4_LEN, at) && matches!(read_u8(bytes, at), 0x45..=0x4F)
+    at + IPV4_LEN <= bytes.len() && matches!(read_u8(bytes, at), 0x45..=0x4F)
 }
 
 /// Returns whether an IPv6 header begins at this position.
@@ -65,7 +71,7 @@ pub fn is_ipv6(bytes: &[u8], at: usize) -> bool
     requires { at < 2 ^ 32 }
     ensures { result ≡ is_ipv6 at bytes.now }
 {
-    is_captured(bytes, IPV6_LEN, at) && read_u8(bytes, at) >> 4 == 6
+    at + IPV6_LEN <= bytes.len() && read_u8(bytes, at) >> 4 == 6
 }
 
 /// Returns the position after an IPv4 header.
@@ -86,12 +92,38 @@ pub fn is_first_fragment(bytes: &[u8], at: usize) -> bool
     read_u16(bytes, at + 6) & 0x1FFF == 0
 }
 
-/// Returns whether two ports follow an IPv4 header and are captured.
-fn has_ipv4_ports(bytes: &[u8], at: usize) -> bool
+/// Reads the fields of the IPv4 header that begins at this position, and the ports after it.
+#[inline(always)]
+pub fn ipv4_fields(bytes: &[u8], at: usize) -> Fields
     requires { at + 20 ≤ length bytes.now }
-    ensures { result ≡ has_ipv4_ports at bytes.now }
+    ensures { result ≡ ipv4_fields at bytes.now }
 {
-    is_first_fragment(bytes, at) && has_ports(read_u8(bytes, at + 9), bytes, behind_ipv4(bytes, at))
+    let behind = at + 4 * usize::from(read_u8(bytes, at) & 0xF);
+    let proto = read_u8(bytes, at + 9);
+    let fields = Fields {
+        vlan: None,
+        version: Some(4),
+        dscp: Some(read_u8(bytes, at + 1) >> 2),
+        proto: Some(proto),
+        source: Some(u128::from(read_u32(bytes, at + 12))),
+        target: Some(u128::from(read_u32(bytes, at + 16))),
+        sport: None,
+        dport: None,
+    };
+    if read_u16(bytes, at + 6) & 0x1FFF != 0 {
+        return fields;
+    }
+    if behind + 4 > bytes.len() {
+        return fields;
+    }
+    match proto {
+        TCP | UDP => Fields {
+            sport: Some(read_u16(bytes, behind)),
+            dport: Some(read_u16(bytes, behind + 2)),
+            ..fields
+        },
+        _ => fields,
+    }
 }
 
 /// Reads the fields of an IPv4 header at this position, or no fields if none begins there.
@@ -105,23 +137,33 @@ pub fn read_ipv4(bytes: &[u8], at: usize) -> Fields
     ipv4_fields(bytes, at)
 }
 
-/// Reads the fields of the IPv4 header that begins at this position.
-#[inline(always)]
-pub fn ipv4_fields(bytes: &[u8], at: usize) -> Fields
-    requires { at + 20 ≤ length bytes.now }
-    ensures { result ≡ ipv4_fields at bytes.now }
+/// Reads the fields of the IPv6 header that begins at this position, and the ports after it.
+fn ipv6_fields(bytes: &[u8], at: usize) -> Fields
+    requires { at + 40 ≤ length bytes.now }
+    ensures { result ≡ ipv6_fields at bytes.now }
 {
-    let behind = behind_ipv4(bytes, at);
-    let there = has_ipv4_ports(bytes, at);
-    Fields {
+    let proto = read_u8(bytes, at + 6);
+    let traffic_class = (read_u16(bytes, at) >> 4 & 0xFF) as u8;
+    let fields = Fields {
         vlan: None,
-        version: Some(4),
-        dscp: Some(read_u8(bytes, at + 1) >> 2),
-        proto: Some(read_u8(bytes, at + 9)),
-        source: Some(u128::from(read_u32(bytes, at + 12))),
-        target: Some(u128::from(read_u32(bytes, at + 16))),
-        sport: port(there, bytes, behind),
-        dport: port(there, bytes, behind + 2),
+        version: Some(6),
+        dscp: Some(traffic_class >> 2),
+        proto: Some(proto),
+        source: Some(read_u128(bytes, at + 8)),
+        target: Some(read_u128(bytes, at + 24)),
+        sport: None,
+        dport: None,
+    };
+    if at + IPV6_LEN + 4 > bytes.len() {
+        return fields;
+    }
+    match proto {
+        TCP | UDP => Fields {
+            sport: Some(read_u16(bytes, at + IPV6_LEN)),
+            dport: Some(read_u16(bytes, at + IPV6_LEN + 2)),
+            ..fields
+        },
+        _ => fields,
     }
 }
 
@@ -136,22 +178,33 @@ pub fn read_ipv6(bytes: &[u8], at: usize) -> Fields
     ipv6_fields(bytes, at)
 }
 
-/// Reads the fields of the IPv6 header that begins at this position.
-pub fn ipv6_fields(bytes: &[u8], at: usize) -> Fields
-    requires { at + 40 ≤ length bytes.now }
-    ensures { result ≡ ipv6_fields at bytes.now }
+/// Returns the fields of a packet that has none.
+pub fn no_fields() -> Fields
+    ensures { result ≡ Rattle.packet_defs.specs.Internet.no_fields }
 {
-    let proto = read_u8(bytes, at + 6);
-    let traffic_class = (read_u16(bytes, at) >> 4 & 0xFF) as u8;
-    let there = has_ports(proto, bytes, at + IPV6_LEN);
     Fields {
         vlan: None,
-        version: Some(6),
-        dscp: Some(traffic_class >> 2),
-        proto: Some(proto),
-        source: Some(read_u128(bytes, at + 8)),
-        target: Some(read_u128(bytes, at + 24)),
-        sport: port(there, bytes, at + IPV6_LEN),
-        dport: port(there, bytes, at + IPV6_LEN + 2),
+        version: None,
+        dscp: None,
+        proto: None,
+        source: None,
+        target: None,
+        sport: None,
+        dport: None,
+    }
+}
+
+/// Returns the flow of a packet. Absent fields are 0 in it.
+#[inline(always)]
+pub fn flow(fields: &Fields) -> FlowKey
+    ensures { result ≡ flow_of fields.now }
+{
+    FlowKey {
+        version: fields.version.unwrap_or(0),
+        source: fields.source.unwrap_or(0),
+        target: fields.target.unwrap_or(0),
+        proto: fields.proto.unwrap_or(0),
+        sport: fields.sport.unwrap_or(0),
+        dport: fields.dport.unwrap_or(0),
     }
 }

@@ -4,18 +4,11 @@
 
 mod asks;
 mod bounds;
-mod bytes;
-mod classes;
 mod classifier;
-mod cooked;
-mod ethernet;
 mod extra;
-mod flows;
-mod headers;
 mod internet;
 mod laws;
-mod loopback;
-mod numbers;
+mod links;
 mod prepared;
 mod ranges;
 mod rules;
@@ -24,8 +17,8 @@ mod unprepared;
 
 pub use classifier::Classifier;
 pub use extra::{no_extra, read_extra};
-pub use flows::flow;
-pub use headers::{read_fields, read_fields_in};
+pub use internet::flow;
 pub use laws::classic_classes_are_kept;
+pub use links::{read_fields, read_fields_in};
 pub use packet_defs::{Departed, ExtraFields, Fields, Header, Packet};
 pub use unprepared::classify;

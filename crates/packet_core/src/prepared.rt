@@ -1,25 +1,47 @@
 //! Classes whose tests are bounds on numbers, prepared for testing many packets.
-ghost use Rattle.std.specs.Prelude.{◌≡◌, ◌<◌, ◌^◌, ◌&&◌, ℕ, true, nat_le, map, IfOk, IfSome};
+ghost use Rattle.std.specs.Prelude.{◌≡◌, ◌<◌, ◌^◌, ◌&&◌, ℕ, true, nat_le, map, position, IfOk, IfSome};
 ghost use Rattle.std.specs.List.{list_all};
 ghost use Rattle.packet_defs.specs.declared.fields.Fields.{Fields};
 ghost use Rattle.packet_defs.specs.declared.extra.Header.{Header};
 ghost use Rattle.packet_defs.specs.Condition.{agree, has_version, in_range, meets};
 ghost use Rattle.packet_defs.specs.Test.{among, belongs, is_found, named, passes};
 ghost use Rattle.packet_core.specs.Tests.{field_of, passes_all, probe_of, range_of, test_of, tests_of};
-ghost use Rattle.packet_core.specs.Numbers.{holds, is_met, numbers_of};
+ghost use Rattle.packet_core.specs.Numbers.{address, holds, is_met, number, numbers_of, place};
+ghost use Rattle.packet_core.specs.Classes.{AreBounds};
 
-use crate::bounds::Bounds;
-use crate::numbers::{COUNT, SOURCE, TARGET, VERSION, place_of};
+use crate::bounds::{Bounds, Prepared};
 use list_core::List;
+use packet_defs::Fields as PacketFields;
+use policy_core::Class;
 use policy_text_defs::{FieldName, Prefix, Probe, Range, Test, TestField};
 use std::alloc::{AllocError, Global};
 
-/// The bounds of a class, one for each test. A class without tests has bounds that every packet
-/// meets.
-#[derive(Drop)]
-pub(crate) struct Prepared {
-    pub(crate) first: Bounds,
-    pub(crate) others: Vec<Bounds>,
+/// How many numbers of a packet are bounded, each at its own index.
+const COUNT: usize = 9;
+
+/// The value of an absent number, above every value that a condition allows.
+const ABSENT: u64 = u64::MAX;
+
+/// The indices that no field has.
+const VERSION: usize = 6;
+
+const SOURCE: usize = 7;
+
+const TARGET: usize = 8;
+
+/// Returns the index of a field.
+fn place_of(field: FieldName) -> usize
+    ensures value { result ≡ place (field_of field) }
+    ensures bound { result < 9 }
+{
+    match field {
+        FieldName::Vlan => 0,
+        FieldName::Dscp => 1,
+        FieldName::Proto => 2,
+        FieldName::Sport => 3,
+        FieldName::Dport => 4,
+        FieldName::Len => 5,
+    }
 }
 
 /// Bounds an address to those that agree with `address` in the first `bits` of its 32 bits.
@@ -149,10 +171,7 @@ fn prepare_tests(alloc: Global, tests: &[Test]) -> Result<Option<Prepared>, Allo
 }
 
 /// Prepares a class as bounds, if it has at most one alternative and each test is one bound.
-pub(crate) fn prepare(
-    alloc: Global,
-    alternatives: &[List<Test>],
-) -> Result<Option<Prepared>, AllocError>
+fn prepare(alloc: Global, alternatives: &[List<Test>]) -> Result<Option<Prepared>, AllocError>
     ensures { IfOk result (λ some. IfSome some (λ class. (header : Header) (n : ℕ) →
         is_met (numbers_of header.fields n) class ≡ belongs header n (tests_of alternatives.now))) }
 {
@@ -166,6 +185,78 @@ pub(crate) fn prepare(
         return Ok(None);
     }
     prepare_tests(alloc, alternatives[0].as_slice())
+}
+
+/// Prepares classes as bounds, if each can be prepared so.
+pub(crate) fn bound_classes(
+    alloc: Global,
+    given: &[Class],
+) -> Result<Option<Vec<Prepared>>, AllocError>
+    ensures { IfOk result (λ some. IfSome some (λ classes. AreBounds classes.items given.now)) }
+{
+    let mut classes = Vec::new(alloc);
+    for class in given {
+        let Some(prepared) = prepare(alloc, class.conditions.as_slice())? else {
+            return Ok(None);
+        };
+        classes.push(prepared)?;
+    }
+    Ok(Some(classes))
+}
+
+/// Returns a 16-bit number, or `ABSENT` if it isn't present.
+#[inline(always)]
+fn short(value: Option<u16>) -> u64
+    ensures { result ≡ number value }
+{
+    match value {
+        Some(value) => u64::from(value),
+        None => ABSENT,
+    }
+}
+
+/// Returns an 8-bit number, or `ABSENT` if it isn't present.
+#[inline(always)]
+fn byte(value: Option<u8>) -> u64
+    ensures { result ≡ number value }
+{
+    match value {
+        Some(value) => u64::from(value),
+        None => ABSENT,
+    }
+}
+
+/// Returns an address, or `ABSENT` if it isn't present or the version isn't 4.
+#[inline(always)]
+fn short_address(four: bool, value: Option<u128>) -> u64
+    ensures { result ≡ address four value }
+{
+    if !four {
+        return ABSENT;
+    }
+    match value {
+        Some(value) => value.min(u128::from(ABSENT)) as u64,
+        None => ABSENT,
+    }
+}
+
+/// Returns the numbers of a packet of this original length.
+#[inline(always)]
+pub(crate) fn numbers_of(fields: &PacketFields, len: u32) -> [u64; COUNT]
+    ensures { result ≡ numbers_of fields.now len }
+{
+    let four = fields.version == Some(4);
+    [
+        short(fields.vlan),
+        byte(fields.dscp),
+        byte(fields.proto),
+        short(fields.sport),
+        short(fields.dport),
+        u64::from(len),
+        byte(fields.version),
+        short_address(four, fields.source),
+        short_address(four, fields.target),
+    ]
 }
 
 /// Returns whether the number at the index of the bounds is within them.
@@ -184,10 +275,14 @@ fn all_hold(all: &[Bounds], numbers: &[u64; COUNT]) -> bool
     all.iter().all(|bounds| holds(bounds, numbers))
 }
 
-/// Returns whether all bounds of a class hold.
+/// Returns the index of the first class whose bounds all hold, if there is one.
 #[inline(always)]
-pub(crate) fn is_met(class: &Prepared, numbers: &[u64; COUNT]) -> bool
-    ensures { result ≡ is_met numbers.now class.now }
+pub(crate) fn first_met(classes: &[Prepared], numbers: &[u64; COUNT]) -> Option<usize>
+    ensures { result ≡ position (is_met numbers.now) classes.now }
 {
-    holds(&class.first, numbers) && all_hold(&class.others, numbers)
+    classes.iter().position(
+        |class: &Prepared| -> bool
+            ensures { result ≡ is_met numbers.entry.now class.now }
+        { holds(&class.first, numbers) && all_hold(&class.others, numbers) },
+    )
 }

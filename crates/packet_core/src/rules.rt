@@ -1,15 +1,17 @@
-//! The tests of a class, prepared for testing many packets.
-ghost use Rattle.std.specs.Prelude.{◌≡◌, ℕ, IfOk, map};
+//! The tests of classes, prepared for testing many packets.
+ghost use Rattle.std.specs.Prelude.{◌≡◌, ℕ, IfOk, map, position};
 ghost use Rattle.std.specs.List.{list_any};
 ghost use Rattle.packet_defs.specs.declared.extra.Header.{Header};
 ghost use Rattle.packet_defs.specs.Test.{is_found, passes, belongs};
 ghost use Rattle.packet_core.specs.Tests.{probe_of, test_of, tests_of, passes_all};
 ghost use Rattle.packet_core.specs.Rules.{is_found_by, passes_by, all_pass, one_passes};
+ghost use Rattle.packet_core.specs.Classes.{AreRules};
 
 use crate::ranges::Ranges;
 use crate::tests::{flags_byte, has_prefix, has_version, have_flags, number_of};
 use list_core::List;
 use packet_defs::Header as PacketHeader;
+use policy_core::Class;
 use policy_text_defs::{Prefix, Probe, Test, TestField};
 use std::alloc::{AllocError, Global};
 
@@ -82,7 +84,7 @@ fn prepare_tests(alloc: Global, tests: &[Test]) -> Result<Rules, AllocError>
 }
 
 /// Prepares the alternatives of a class.
-pub(crate) fn prepare_alternatives(
+fn prepare_alternatives(
     alloc: Global,
     alternatives: &[List<Test>],
 ) -> Result<Alternatives, AllocError>
@@ -136,11 +138,38 @@ fn any_passes(all: &[Rules], header: &PacketHeader, len: u32) -> bool
 }
 
 /// Returns whether a packet of this original length belongs to a class.
-pub(crate) fn one_passes(class: &Alternatives, header: &PacketHeader, len: u32) -> bool
+fn one_passes(class: &Alternatives, header: &PacketHeader, len: u32) -> bool
     ensures { result ≡ one_passes header.now len class.now.all.items }
 {
     if class.all.is_empty() {
         return true;
     }
     any_passes(&class.all, header, len)
+}
+
+/// Prepares the tests of classes.
+pub(crate) fn tested_classes(
+    alloc: Global,
+    given: &[Class],
+) -> Result<Vec<Alternatives>, AllocError>
+    ensures { IfOk result (λ classes. AreRules classes.items given.now) }
+{
+    let mut classes = Vec::new(alloc);
+    for class in given {
+        classes.push(prepare_alternatives(alloc, class.conditions.as_slice())?)?;
+    }
+    Ok(classes)
+}
+
+/// Returns the index of the first class to which a packet of this original length belongs.
+pub(crate) fn place_passed(
+    classes: &[Alternatives],
+    header: &PacketHeader,
+    len: u32,
+) -> Option<usize>
+    ensures { result ≡ position (λ c. one_passes header.now len c.all.items) classes.now }
+{
+    classes
+        .iter()
+        .position(|class| one_passes(class, header, len))
 }

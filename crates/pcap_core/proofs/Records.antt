@@ -1,12 +1,13 @@
 -- Facts about the remaining bytes, from the pieces taken from them.
-use Rattle.pcap_core.proofs.Prelude.{◌≡◌, ap, arith, [], ◌<◌, ◌∙◌, List, None, sym, ℕ, ◌++◌, Option, Some, length, refl, ◌+◌, append_assoc, false, ◌≤◌, length-append, subst, take, Bool, Err, Ok, true, drop_at, length-take, take-append-drop, length-replicate, IfSome, Fault, bad_magic, data_cut, header_cut, pcap_ng, record_cut, record_long, too_many, version, IsHeaderFault, IsHeader, broken, found, front_of, most_records, Record, IsRecordFault, IsSpelling, captured_len, most_captured, record_len, Head, IsFrameOf, IsFrontFault, Passes, IsAll, TakesHeader, TakesRecord, TakesPreface, TakesFront, IsWhole, IsShort, LeavesNothing}
+use Rattle.pcap_core.proofs.Prelude.{◌≡◌, ap, arith, [], ◌<◌, ◌∙◌, List, None, sym, ℕ, ◌++◌, Option, Some, length, refl, ◌+◌, append_assoc, false, ◌≤◌, length-append, subst, take, Bool, Err, Ok, true, drop_at, length-take, take-append-drop, length-replicate, IfSome, Fault, bad_magic, data_cut, header_cut, pcap_ng, record_cut, record_long, too_many, version, IsHeaderFault, IsHeader, broken, found, front_of, most_records, Record, IsRecordFault, IsSpelling, captured_len, most_captured, record_len, Head, IsFrameOf, IsFrontFault, Passes, IsAll, TakesHeader, TakesRecord, TakesPreface, TakesFront, rest_of, IsWhole, IsShort, LeavesNothing}
 use Rattle.std.proofs.Math.ListN.{replicate}
 use Rattle.pcap_defs.specs.Number.{long_at}
 use Rattle.pcap_defs.specs.Reading.{head_of as head_in_file}
 use Rattle.pcap_defs.proofs.Numbers.{number_at-append}
 use Rattle.pcap_defs.proofs.Headers.{head_of-header, head_of-fault}
 use Rattle.pcap_defs.proofs.FrontTests.{front_of-spelled, front_of-fault}
-use Rattle.pcap_core.specs.declared.record_header.RecordHeader.{RecordHeader}
+use Rattle.pcap_core.specs.Frames.{IsPreface}
+use Rattle.pcap_core.specs.declared.header.RecordHeader.{RecordHeader}
 
 -- if nothing could be taken, nothing was left
 pub whole-none : (old : Option (List ℕ)) (most : ℕ) (front : List ℕ) → IsShort old front most → length front < most → front ≡ [] → IsWhole old
@@ -96,6 +97,17 @@ frame-taken head number p captured old mid new (front, says, first) second short
   record { moment_is = sym says.moment_is; original = sym says.original; captured = refl },
   record-taken head.big front captured old mid new first second says.whole (sym says.counted ∙ counted) (omega (arith, counted, short)),
 )
+
+-- a record that the window has as a whole, and its frame
+pub frame-held : (head : Head) (number : ℕ) (p : RecordHeader) (held front captured now : List ℕ) (left : Option (List ℕ)) → IsPreface head p front → held ≡ front ++ (captured ++ now)
+    → p.captured ≤ most_captured → p.captured ≡ length captured
+    → (r : Record) × IsFrameOf head.nano r (record { number = number; moment = p.moment; captured = p.captured; len = p.len }) captured
+    × TakesRecord head.big r (rest_of held left) (rest_of now left)
+frame-held head number p held front captured now None says split short counted =
+    frame-taken head number p captured None None None (front, says, tt) tt short counted
+frame-held head number p held front captured now (Some left) says split short counted =
+    frame-taken head number p captured (Some (held ++ left)) (Some ((captured ++ now) ++ left)) (Some (now ++ left))
+    (front, says, ap (λ xs. xs ++ left) split ∙ append_assoc front (captured ++ now) left) (append_assoc captured now left) short counted
 
 -- skipped bytes were at the front of the remaining bytes
 passed-taken : (n : ℕ) (mid new : Option (List ℕ)) → Passes n mid new → (bytes : List ℕ) × (n ≡ length bytes) × TakesFront mid new bytes

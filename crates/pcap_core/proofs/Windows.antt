@@ -53,15 +53,30 @@ held-advanced xs at end n h =
     ap (take (end - (at + n))) (sym (drop-drop n at xs)) ∙ sym (drop-take n (end - (at + n)) (drop at xs)) ∙ ap (λ m. drop n (take m (drop at xs))) more
 
 -- bytes of the window that are taken in place are the first of it
-pub taken-in-place : (xs : List ℕ) (at end n : ℕ) (left : Option (List ℕ)) → at + n ≤ end → end ≤ length xs
-    → TakesFront (rest_of (take (end - at) (drop at xs)) left) (rest_of (take (end - (at + n)) (drop (at + n) xs)) left) (drop (at + n - n) (take (at + n) xs))
-taken-in-place xs at end n None h within = tt
-taken-in-place xs at end n (Some left) h within =
+in-place : (xs : List ℕ) (at end n : ℕ) → at + n ≤ end → end ≤ length xs
+    → drop (at + n - n) (take (at + n) xs) ++ take (end - (at + n)) (drop (at + n) xs) ≡ take (end - at) (drop at xs)
+in-place xs at end n h within =
     let before : at + n - n ≡ at = omega arith in
     let some : n ≡ at + n - at = omega arith in
     let front : drop (at + n - n) (take (at + n) xs) ≡ take (at + n - at) (drop at xs) =
     ap (λ m. drop m (take (at + n) xs)) before ∙ drop-take at n xs ∙ ap (λ m. take m (drop at xs)) some in
-    let rest = take (end - (at + n)) (drop (at + n) xs) in
-    let halves : drop (at + n - n) (take (at + n) xs) ++ rest ≡ take (end - at) (drop at xs) =
-    ap (λ zs. zs ++ rest) front ∙ copy-moved xs xs [] (take (at + n - at) (drop at xs)) at end n refl refl h within in
-    ap (λ zs. zs ++ left) (sym halves) ∙ append_assoc (drop (at + n - n) (take (at + n) xs)) rest left
+    ap (λ zs. zs ++ take (end - (at + n)) (drop (at + n) xs)) front ∙ copy-moved xs xs [] (take (at + n - at) (drop at xs)) at end n refl refl h within
+
+pub taken-in-place : (xs : List ℕ) (at end n : ℕ) (left : Option (List ℕ)) → at + n ≤ end → end ≤ length xs
+    → TakesFront (rest_of (take (end - at) (drop at xs)) left) (rest_of (take (end - (at + n)) (drop (at + n) xs)) left) (drop (at + n - n) (take (at + n) xs))
+taken-in-place xs at end n None h within = tt
+taken-in-place xs at end n (Some left) h within =
+    ap (λ zs. zs ++ left) (sym (in-place xs at end n h within))
+    ∙ append_assoc (drop (at + n - n) (take (at + n) xs)) (take (end - (at + n)) (drop (at + n) xs)) left
+
+-- and so they are after the first `before` bytes were skipped
+pub taken-held : (xs : List ℕ) (at end before n : ℕ) → at + (before + n) ≤ end → end ≤ length xs
+    → take (end - at) (drop at xs) ≡ take before (take (end - at) (drop at xs))
+    ++ (drop (at + (before + n) - n) (take (at + (before + n)) xs) ++ take (end - (at + (before + n))) (drop (at + (before + n)) xs))
+taken-held xs at end before n h within =
+    let sum : at + before + n ≡ at + (before + n) = omega arith in
+    let front = take before (take (end - at) (drop at xs)) in
+    let rest : drop before (take (end - at) (drop at xs)) ≡ drop (at + (before + n) - n) (take (at + (before + n)) xs) ++ take (end - (at + (before + n))) (drop (at + (before + n)) xs) =
+    sym (held-advanced xs at end before (omega (arith, h))) ∙ sym (in-place xs (at + before) end n (omega (arith, h)) within)
+    ∙ ap (λ m. drop (m - n) (take m xs) ++ take (end - m) (drop m xs)) sum in
+    sym (take-append-drop before (take (end - at) (drop at xs))) ∙ ap (λ zs. front ++ zs) rest

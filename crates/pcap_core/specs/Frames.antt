@@ -5,7 +5,7 @@ use Rattle.pcap_defs.specs.Fault.{Fault, data_cut}
 use Rattle.pcap_defs.specs.Number.{long_at}
 use Rattle.pcap_defs.specs.Record.{Record, moment, moment_at, captured_len, record_len, most_captured, most_records, IsRecordFault}
 use Rattle.pcap_core.specs.declared.frame.Frame.{Frame}
-use Rattle.pcap_core.specs.declared.record_header.RecordHeader.{RecordHeader}
+use Rattle.pcap_core.specs.declared.header.RecordHeader.{RecordHeader}
 
 -- The frame belongs to the record, and these are its captured bytes.
 pub record IsFrameOf (nano : Bool) (r : Record) (frame : Frame) (bytes : List ℕ) : Type 0 where

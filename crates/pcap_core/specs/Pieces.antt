@@ -4,7 +4,7 @@ use Rattle.pcap_core.specs.Rest.{TakesFront}
 use Rattle.pcap_defs.specs.declared.head.Head.{Head}
 use Rattle.pcap_defs.specs.Header.{IsHeader}
 use Rattle.pcap_defs.specs.Record.{Record, IsSpelling}
-use Rattle.pcap_core.specs.declared.record_header.RecordHeader.{RecordHeader}
+use Rattle.pcap_core.specs.declared.header.RecordHeader.{RecordHeader}
 use Rattle.pcap_core.specs.Frames.{IsPreface}
 
 -- the remaining bytes were a header with these values, and then the bytes left now

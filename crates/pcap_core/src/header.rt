@@ -1,12 +1,14 @@
-//! The file header of a capture.
-ghost use Rattle.std.specs.Prelude.{◌≡◌, ◌≤◌, ◌↔◌, Bool, length, IsTrue, IfOk, IfErr, IfSome, IfNone, IsSomeAnd, IsErr};
+//! The headers of a capture and of its records, and numbers in its byte order.
+ghost use Rattle.std.specs.Prelude.{◌≡◌, ◌≤◌, ◌<◌, ◌+◌, ◌*◌, ◌^◌, ◌↔◌, Bool, length, IsTrue, IfOk, IfErr, IfSome, IfNone, IsSomeAnd, IsErr};
 ghost use Rattle.pcap_defs.specs.Fault.{pcap_ng};
 ghost use Rattle.pcap_defs.specs.Header.{HasMagic, IsHeader, IsHeaderFault, magic_number};
+ghost use Rattle.pcap_defs.specs.Number.{long_at, short_at};
 ghost use Rattle.pcap_core.specs.Faults.{fault_in};
+ghost use Rattle.pcap_core.specs.Frames.{IsFrontFault, IsPreface, IsInLimits};
 
 use crate::fault::CaptureFault;
-use crate::number::{read_long, read_short};
-use pcap_defs::Head;
+use byteorder::{BigEndian, ByteOrder, LittleEndian};
+use pcap_defs::{Head, MOST_CAPTURED};
 
 /// The length of a file header in bytes.
 pub const HEADER_LEN: usize = 24;
@@ -74,4 +76,98 @@ pub fn head_in(bytes: &[u8]) -> Result<Head, CaptureFault>
     }
     let link = (read_long(big, bytes, 20) & 0xFFFF) as u16;
     Ok(Head { link, nano, big })
+}
+
+/// The length in bytes of a record before its captured bytes.
+pub const RECORD_LEN: usize = 16;
+
+/// The values before a record's captured bytes.
+#[derive(Clone, Copy)]
+pub struct RecordHeader {
+    pub moment: u64,
+    pub captured: u32,
+    pub len: u32,
+}
+
+/// Parses a record header. The byte order is chosen once for its four numbers.
+#[inline(always)]
+pub fn record_header_in(head: Head, bytes: &[u8]) -> RecordHeader
+    requires { length bytes.now ≡ 16 }
+    ensures values { IsPreface head result bytes.now }
+    ensures bound { result.moment < 2 ^ 62 }
+{
+    let (seconds, fraction, captured, len) = if head.big {
+        (
+            BigEndian::read_u32(bytes),
+            BigEndian::read_u32(&bytes[4..]),
+            BigEndian::read_u32(&bytes[8..]),
+            BigEndian::read_u32(&bytes[12..]),
+        )
+    } else {
+        (
+            LittleEndian::read_u32(bytes),
+            LittleEndian::read_u32(&bytes[4..]),
+            LittleEndian::read_u32(&bytes[8..]),
+            LittleEndian::read_u32(&bytes[12..]),
+        )
+    };
+    let fraction = u64::from(fraction);
+    let nanos = if head.nano { fraction } else { fraction * 1000 };
+    RecordHeader {
+        moment: u64::from(seconds) * 1_000_000_000 + nanos,
+        captured,
+        len,
+    }
+}
+
+/// Parses the header of the record after `count` records. `bytes` are its sixteen bytes, or all
+/// that are left if there are fewer.
+pub fn checked_record_header_in(
+    head: Head,
+    count: u32,
+    bytes: &[u8],
+) -> Result<RecordHeader, CaptureFault>
+    requires some { 0 < length bytes.now }
+    requires bound { length bytes.now ≤ 16 }
+    ensures values { IfOk result (λ p. IsPreface head p bytes.now) }
+    ensures limits { IfOk result (IsInLimits count) }
+    ensures fault { IfErr result (λ e. IsSomeAnd (fault_in e)
+        (IsFrontFault head.big count bytes.now)) }
+{
+    let number = u64::from(count) + 1;
+    if count == u32::MAX {
+        return Err(CaptureFault::TooMany);
+    }
+    if bytes.len() < RECORD_LEN {
+        return Err(CaptureFault::RecordCut(number));
+    }
+    let header = record_header_in(head, bytes);
+    if header.captured > MOST_CAPTURED {
+        return Err(CaptureFault::RecordLong(number));
+    }
+    Ok(header)
+}
+
+/// Reads the four-byte number at `at`, big-endian if `big` and else little-endian.
+pub fn read_long(big: bool, bytes: &[u8], at: usize) -> u32
+    requires { at + 4 ≤ length bytes.now }
+    ensures { result ≡ long_at big at bytes.now }
+{
+    if big {
+        BigEndian::read_u32(&bytes[at..])
+    } else {
+        LittleEndian::read_u32(&bytes[at..])
+    }
+}
+
+/// Reads the two-byte number at `at`, big-endian if `big` and else little-endian.
+pub fn read_short(big: bool, bytes: &[u8], at: usize) -> u16
+    requires { at + 2 ≤ length bytes.now }
+    ensures { result ≡ short_at big at bytes.now }
+{
+    if big {
+        BigEndian::read_u16(&bytes[at..])
+    } else {
+        LittleEndian::read_u16(&bytes[at..])
+    }
 }

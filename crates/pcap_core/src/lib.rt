@@ -3,26 +3,22 @@
 //! either byte order. Begin with specs/Captures.antt.
 #![tactic(auto)]
 
-mod capture;
 mod capture_reader;
 mod fault;
 mod frame;
 mod header;
 mod laws;
-mod number;
 mod reader;
-mod record_header;
 mod window;
 mod writing;
 
 pub use capture_reader::CaptureReader;
 pub use fault::CaptureFault;
 pub use frame::{Frame, LinkedFrame};
-pub use header::{HEADER_LEN, is_newer};
+pub use header::{HEADER_LEN, is_newer, read_long, read_short};
 pub use laws::{
     a_written_capture_is_read_back, a_written_moment_is_read_back, bytes_of_more_records_follow,
 };
-pub use number::{read_long, read_short};
 pub use pcap_defs::Head;
 pub use reader::Reader;
 pub use window::Window;

@@ -5,18 +5,20 @@ ghost use Rattle.outside_core.specs.Kept.{KeepsShelf};
 ghost use Rattle.pcap_defs.specs.Fault.{Fault};
 ghost use Rattle.pcap_defs.specs.Header.{IsHeaderFault};
 ghost use Rattle.pcap_defs.specs.Record.{Record, IsRecordFault, most_captured, most_records};
-ghost use Rattle.pcap_core.specs.Faults.{fault_in};
+ghost use Rattle.pcap_core.specs.Faults.{fault_in, read_error_as};
 ghost use Rattle.pcap_core.specs.Frames.{IsFrameOf, IsNextFrame, IsInLimits};
 ghost use Rattle.pcap_core.specs.Held.{held, bytes_taken};
 ghost use Rattle.pcap_core.specs.Rest.{rest_of, HasEnded, Serves};
 ghost use Rattle.pcap_core.specs.Pieces.{TakesHeader, TakesPreface, TakesRecord};
 
+use crate::capture_reader::CaptureReader;
 use crate::fault::CaptureFault;
-use crate::frame::Frame;
-use crate::header::{HEADER_LEN, head_in};
-use crate::record_header::{RECORD_LEN, RecordHeader, preface_in};
+use crate::frame::{Frame, LinkedFrame};
+use crate::header::{
+    HEADER_LEN, RECORD_LEN, RecordHeader, checked_record_header_in, head_in, record_header_in,
+};
 use crate::window::Window;
-use outside_core::Shelf;
+use outside_core::{ReadError, Shelf};
 use pcap_defs::Head;
 use std::alloc::Global;
 
@@ -43,7 +45,6 @@ fn read_head<S: Shelf>(
 
 /// Reads the header of the next record, after `count` records. If the window has all of it, it is
 /// parsed in place.
-#[inline(always)]
 fn read_record_header<S: Shelf>(
     head: Head,
     count: u32,
@@ -68,7 +69,7 @@ fn read_record_header<S: Shelf>(
 {
     let front = window.front();
     if front.len() >= RECORD_LEN {
-        let preface = preface_in(head, count, &front[..RECORD_LEN])?;
+        let preface = checked_record_header_in(head, count, &front[..RECORD_LEN])?;
         window.advance(RECORD_LEN);
         return Ok(Some(preface));
     }
@@ -76,12 +77,11 @@ fn read_record_header<S: Shelf>(
     if scratch.is_empty() {
         return Ok(None);
     }
-    Ok(Some(preface_in(head, count, scratch)?))
+    Ok(Some(checked_record_header_in(head, count, scratch)?))
 }
 
 /// Reads the next record, after `count` records. Its captured bytes are those that were taken last:
 /// in the window, or else in `into`.
-#[inline(always)]
 fn read_record<S: Shelf>(
     head: Head,
     count: u32,
@@ -258,6 +258,44 @@ impl Reader {
         }
     }
 
+    /// Reads the next record if the window may not have it as a whole, or finds its fault.
+    #[inline(never)]
+    fn next_rare<S: Shelf>(
+        &mut self,
+        shelf: &mut S,
+        into: &mut Vec<u8>,
+    ) -> Result<Option<Frame>, CaptureFault>
+        requires ready { IsReady self.old }
+        requires begun { IsTrue (S.begun shelf.old) }
+        ensures found { IfOk result (λ o. IfSome o (λ frame.
+            (r : Record) × IsFrameOf (is_nano self.old) r frame (captured_of self.new into.new.items)
+            × TakesRecord (is_big self.old) r (rest_left self.old (S.left shelf.old))
+            (rest_left self.new (S.left shelf.new)))) }
+        ensures next { IfOk result (λ o. IfSome o (λ frame.
+            IsNextFrame (records_given self.old) frame (captured_of self.new into.new.items))) }
+        ensures stops { StopsRightly is_some (is_big self.old) (records_given self.old) result
+            (rest_left self.old (S.left shelf.old)) (rest_left self.new (S.left shelf.new)) }
+        ensures counts { Counts is_some result self.old self.new }
+        ensures shelf { Serves S.lends S.content S.begun S.faults shelf.old shelf.new }
+        ensures cause { IsErrOf result CaptureFault.ReadFault →
+            Rose (S.faults shelf.old) (S.faults shelf.new) }
+    {
+        let Some(head) = self.head else {
+            unreachable!()
+        };
+        match read_record(head, self.records, &mut self.window, shelf, into) {
+            Ok(Some(frame)) => {
+                self.records += 1;
+                Ok(Some(frame))
+            }
+            Ok(None) => Ok(None),
+            Err(fault) => {
+                self.live = false;
+                Err(fault)
+            }
+        }
+    }
+
     /// Reads the next record. `captured` returns its captured bytes, if it is given the contents of
     /// `into` as they are after the call. They are copied to `into` only if they aren't buffered as
     /// a whole.
@@ -290,17 +328,22 @@ impl Reader {
         let Some(head) = self.head else {
             unreachable!()
         };
-        match read_record(head, self.records, &mut self.window, shelf, into) {
-            Ok(Some(frame)) => {
+        let front = self.window.front();
+        if front.len() >= RECORD_LEN {
+            let header = record_header_in(head, &front[..RECORD_LEN]);
+            let captured = header.captured as usize;
+            if self.records < u32::MAX && RECORD_LEN + captured <= front.len() {
+                self.window.take_held(RECORD_LEN, captured);
                 self.records += 1;
-                Ok(Some(frame))
-            }
-            Ok(None) => Ok(None),
-            Err(fault) => {
-                self.live = false;
-                Err(fault)
+                return Ok(Some(Frame {
+                    number: u64::from(self.records),
+                    moment: header.moment,
+                    captured: header.captured,
+                    len: header.len,
+                }));
             }
         }
+        self.next_rare(shelf, into)
     }
 
     /// Returns the captured bytes of the record that the last call of `next_in_place` read. `copied`
@@ -309,7 +352,7 @@ impl Reader {
     pub fn captured<'b>(&'b self, copied: &'b [u8]) -> &'b [u8]
         ensures { result.now ≡ captured_of self.now copied.now }
     {
-        self.window.taken(copied)
+        CaptureReader::captured(self, copied)
     }
 
     /// Reads the next record, and replaces the contents of `into` by its captured bytes.
@@ -386,6 +429,86 @@ impl Reader {
                 self.live = false;
                 Err(fault)
             }
+        }
+    }
+}
+
+/// Converts an error of this reader to the error type shared by all capture formats.
+fn read_error(fault: CaptureFault) -> ReadError
+    ensures { result ≡ read_error_as fault }
+{
+    match fault {
+        CaptureFault::ReadFault => ReadError::Source,
+        CaptureFault::NoMemory => ReadError::Memory,
+        _ => ReadError::Fault(fault.code(), fault.place()),
+    }
+}
+
+impl CaptureReader for Reader {
+    ghost use Rattle.pcap_defs.specs.Reading.{capture_of};
+    ghost use Rattle.pcap_defs.specs.Contents.{in_capture};
+    ghost use Rattle.pcap_core.specs.Readers.{is_live, records_given, bytes_held, captured_of, IsFresh, IsReady};
+    ghost use Rattle.pcap_core.specs.Left.{contents_left};
+
+    ghost contents = { λ file. in_capture (capture_of file) };
+
+    ghost left = { contents_left };
+
+    ghost given = { records_given };
+
+    ghost is_live = { is_live };
+
+    ghost ahead = { bytes_held };
+
+    ghost captured_of = { captured_of };
+
+    ghost fresh = { IsFresh };
+
+    ghost ready = { IsReady };
+
+    fn over(alloc: Global, window: Window) -> Reader {
+        Reader::over(alloc, window)
+    }
+
+    fn live(&self) -> bool {
+        Reader::live(self)
+    }
+
+    fn start<S: Shelf>(&mut self, shelf: &mut S) -> Result<(), ReadError> {
+        match Reader::start(self, shelf) {
+            Ok(_) => Ok(()),
+            Err(fault) => Err(read_error(fault)),
+        }
+    }
+
+    #[inline(always)]
+    fn next_in_place<S: Shelf>(
+        &mut self,
+        shelf: &mut S,
+        into: &mut Vec<u8>,
+    ) -> Result<Option<LinkedFrame>, ReadError> {
+        let Some(head) = self.head else {
+            unreachable!()
+        };
+        match Reader::next_in_place(self, shelf, into) {
+            Ok(Some(frame)) => Ok(Some(LinkedFrame {
+                frame,
+                link: head.link,
+            })),
+            Ok(None) => Ok(None),
+            Err(fault) => Err(read_error(fault)),
+        }
+    }
+
+    #[inline(always)]
+    fn captured<'b>(&'b self, copied: &'b [u8]) -> &'b [u8] {
+        self.window.taken(copied)
+    }
+
+    fn pass<S: Shelf>(&mut self, shelf: &mut S, scratch: &mut Vec<u8>) -> Result<bool, ReadError> {
+        match Reader::pass(self, shelf, scratch) {
+            Ok(some) => Ok(some),
+            Err(fault) => Err(read_error(fault)),
         }
     }
 }

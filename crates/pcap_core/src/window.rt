@@ -263,12 +263,17 @@ impl Window {
         Ok(into.len())
     }
 
-    /// Returns the last `count` bytes of the buffer before the window, or all if there are fewer.
+    /// Skips `before` bytes of the window and takes the `count` bytes after them, which stay in it.
+    /// `taken` returns them until the next change of the window.
     #[inline(always)]
-    fn before(&self, count: usize) -> &[u8]
-        ensures { result.now ≡ drop (self.now.at - count) (take self.now.at self.now.buffer.items) }
+    pub(crate) fn take_held(&mut self, before: usize, count: usize)
+        requires { before + count ≤ length (held self.old) }
+        ensures taken { (copied : List ℕ) → held self.old ≡
+            take before (held self.old) ++ (bytes_taken self.new copied ++ held self.new) }
+        ensures count { (copied : List ℕ) → length (bytes_taken self.new copied) ≡ count }
     {
-        &self.buffer[self.at.saturating_sub(count)..self.at]
+        self.at += before + count;
+        self.in_place = Some(count);
     }
 
     /// Returns the bytes that the last call of `take_in_place` took. `copied` are the contents of
@@ -278,7 +283,7 @@ impl Window {
         ensures { result.now ≡ bytes_taken self.now copied.now }
     {
         match self.in_place {
-            Some(count) => self.before(count),
+            Some(count) => &self.buffer[self.at.saturating_sub(count)..self.at],
             None => copied,
         }
     }
@@ -288,9 +293,9 @@ impl Window {
     pub fn copy_taken(&self, into: &mut Vec<u8>) -> Result<(), AllocError>
         ensures { OnOk result (into.new.items ≡ bytes_taken self.now into.old.items) }
     {
-        if let Some(count) = self.in_place {
+        if self.in_place.is_some() {
             into.clear();
-            into.extend_from_slice(self.before(count))?;
+            into.extend_from_slice(self.taken(&[]))?;
         }
         Ok(())
     }

@@ -56,7 +56,8 @@ impl HeapPifo {
         }
     }
 
-    /// Allocates memory for `more` pushes. The error means out of memory.
+    /// Allocates memory for `more` pushes, and for at least 16, so that short queues seldom grow. The
+    /// error means out of memory.
     #[inline(never)]
     fn grow(&mut self, more: usize) -> Result<(), AllocError>
         requires short { self.old.spare < more }
@@ -65,8 +66,9 @@ impl HeapPifo {
         ensures entries { self.new.entries ≡ self.old.entries }
         ensures pushes { self.new.pushes ≡ self.old.pushes }
     {
-        self.run.reserve(more)?;
-        self.heap.reserve(more)?;
+        let pushes = more.max(16);
+        self.run.reserve(pushes)?;
+        self.heap.reserve(pushes)?;
         let in_run = self.run.capacity() - self.run.len();
         let in_heap = self.heap.capacity() - self.heap.len();
         self.spare = in_run.min(in_heap);

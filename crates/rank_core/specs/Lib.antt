@@ -4,3 +4,4 @@ pub mod Flows
 pub mod Node
 pub mod Forms
 pub mod Table
+pub mod Runs

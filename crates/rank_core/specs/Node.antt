@@ -8,8 +8,8 @@ use Rattle.rank_defs.specs.declared.transaction.Transaction.{Transaction}
 use Rattle.rank_defs.specs.States.{State, SameState, Memory, memory_for}
 use Rattle.rank_core.specs.Scope.{memory, run_of}
 use Rattle.rank_core.specs.Flows.{items_of, numbers_of}
-use Rattle.rank_core.specs.declared.eaches.Eaches.{Eaches}
-use Rattle.rank_core.specs.declared.eaches.Eaches.TheVariants.{Children, Flows, Bare}
+use Rattle.rank_core.specs.declared.node.Eaches.{Eaches}
+use Rattle.rank_core.specs.declared.node.Eaches.TheVariants.{Children, Flows, Bare}
 use Rattle.rank_core.specs.declared.node.NodeState.{NodeState}
 
 -- the values kept for a child or a flow; a bare leaf has an empty list for every flow

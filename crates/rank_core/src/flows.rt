@@ -1,24 +1,22 @@
 //! The `each` variables of the flows at a leaf.
 
-ghost use Rattle.std.specs.Prelude.{◌≡◌, ◌≢◌, ◌<◌, ℕ, [], length, map, slice_get, IsSome, Some, None, OnErr, OnOk};
+ghost use Rattle.std.specs.Prelude.{◌≡◌, ◌≢◌, ◌<◌, ℕ, [], length, slice_get, IsSome, Some, None, OnErr, OnOk};
 ghost use Rattle.std.proofs.Props.{props};
 ghost use Rattle.std.specs.Map.{lookup};
 ghost use Rattle.rank_defs.specs.declared.environment.FlowKey.{FlowKey as Known};
-ghost use Rattle.rank_defs.specs.Shapes.{IsEnvInRange, IsMemoryInRange, IsShaped};
-ghost use Rattle.rank_defs.specs.Programs.{program_of, assignment_of};
 ghost use Rattle.rank_core.specs.FlowKeys.{key_of, has_key};
-ghost use Rattle.rank_core.specs.Forms.{IsForm};
-ghost use Rattle.rank_core.specs.Scope.{memory, run_of, AreCheckedIn, AreShapedIn};
+ghost use Rattle.rank_core.specs.Runs.{CanRun};
+ghost use Rattle.rank_core.specs.Scope.{memory, run_of};
 
-use crate::eaches::run_for_place;
 use crate::form::Form;
+use crate::node::run_for_place;
 use rank_defs::{Assign, Env, FlowKey, Transaction};
 use std::alloc::{AllocError, Global};
 use std::collections::BTreeMap;
 
 /// A flow as an ordered key. The fields that differ most often between flows come first.
 #[derive(PartialEq, Eq, PartialOrd, Ord, Drop)]
-struct OrderedKey {
+pub struct OrderedKey {
     sport: u16,
     dport: u16,
     source: u128,
@@ -27,8 +25,9 @@ struct OrderedKey {
     version: u8,
 }
 
+/// Returns the ordered key of a flow.
 #[inline]
-fn key_of(flow: &FlowKey) -> OrderedKey
+pub fn key_of(flow: &FlowKey) -> OrderedKey
     ensures { result ≡ key_of flow.now }
 {
     OrderedKey {
@@ -43,17 +42,6 @@ fn key_of(flow: &FlowKey) -> OrderedKey
 
 /// The minimum number of guesses, unless there are none.
 const FEWEST: usize = 64;
-
-/// Returns a hash of the flow's ports and addresses. An address that doesn't fit in 64 bits counts
-/// as 0.
-#[inline(always)]
-fn mixed(flow: &FlowKey) -> usize {
-    let ports = (u64::from(flow.sport) << 16) | u64::from(flow.dport);
-    let source = u64::try_from(flow.source).unwrap_or(0);
-    let target = u64::try_from(flow.target).unwrap_or(0);
-    let addresses = source.rotate_left(32) ^ target;
-    ((ports ^ addresses).wrapping_mul(0x9E37_79B9_7F4A_7C15) >> 32) as usize
-}
 
 /// The `each` variables of the flows that have room, each flow at its index. Captures choose the
 /// flows, so indices are kept in an ordered map: with a hash map and a known seed, a capture could
@@ -88,16 +76,23 @@ impl FlowTable {
         }
     }
 
-    /// Returns the position of the guess for a flow.
+    /// Returns the position of the guess for a flow, a hash of its ports and addresses. An address
+    /// that doesn't fit in 64 bits counts as 0.
     #[inline(always)]
     fn guess_at(&self, flow: &FlowKey) -> usize {
-        mixed(flow) & self.guesses.len().wrapping_sub(1)
+        let ports = (u64::from(flow.sport) << 16) | u64::from(flow.dport);
+        let source = u64::try_from(flow.source).unwrap_or(0);
+        let target = u64::try_from(flow.target).unwrap_or(0);
+        let addresses = source.rotate_left(32) ^ target;
+        let hash = ((ports ^ addresses).wrapping_mul(0x9E37_79B9_7F4A_7C15) >> 32) as usize;
+        hash & self.guesses.len().wrapping_sub(1)
     }
 
     /// Returns the index of a flow, if it has room.
     #[inline(always)]
-    fn place(&self, flow: &FlowKey) -> Option<usize>
-        ensures { result ≡ place_of self.now flow.now }
+    fn place(&mut self, flow: &FlowKey) -> Option<usize>
+        ensures place { result ≡ place_of self.new flow.now }
+        ensures same { (f : FlowKey) → numbers_of self.new f ≡ numbers_of self.old f }
     {
         let guess = match self.guesses.get(self.guess_at(flow)) {
             Some(guess) => *guess as usize,
@@ -108,28 +103,26 @@ impl FlowTable {
                 return Some(guess);
             }
         }
-        self.search(flow)
+        self.search(*flow)
     }
 
-    /// Looks up the index of a flow in the map.
+    /// Looks up the index of a flow in the map, and stores it as the guess. It takes a copy, so that
+    /// a packet with a right guess needs none.
     #[inline(never)]
-    fn search(&self, flow: &FlowKey) -> Option<usize>
-        ensures { result ≡ place_of self.now flow.now }
-    {
-        match self.places.get(&key_of(flow)) {
-            Some(place) => Some(*place),
-            None => None,
-        }
-    }
-
-    /// Stores `place` as the guess for a flow.
-    #[inline(always)]
-    fn remember(&mut self, flow: &FlowKey, place: usize)
+    fn search(&mut self, flow: FlowKey) -> Option<usize>
+        ensures place { result ≡ place_of self.new flow }
         ensures same { (f : FlowKey) → numbers_of self.new f ≡ numbers_of self.old f }
     {
-        let at = self.guess_at(flow);
-        if let Some(guess) = self.guesses.get_mut(at) {
-            *guess = u32::try_from(place).unwrap_or(0);
+        match self.places.get(&key_of(&flow)) {
+            Some(found) => {
+                let place = *found;
+                let at = self.guess_at(&flow);
+                if let Some(guess) = self.guesses.get_mut(at) {
+                    *guess = u32::try_from(place).unwrap_or(0);
+                }
+                Some(place)
+            }
+            None => None,
         }
     }
 
@@ -178,10 +171,7 @@ impl FlowTable {
         ensures err { OnErr result ((f : FlowKey) → numbers_of self.new f ≡ numbers_of self.old f) }
     {
         match self.place(flow) {
-            Some(place) => {
-                self.remember(flow, place);
-                Ok(())
-            }
+            Some(_) => Ok(()),
             None => self.add(flow, first),
         }
     }
@@ -198,15 +188,9 @@ impl FlowTable {
         rank: u64,
         keeps: &mut [u64],
     ) -> u64
-        requires shaped { IsShaped (program_of transaction.now) }
-        requires told { IsEnvInRange env.now }
-        requires checked { AreCheckedIn transaction.now assigns.now }
-        requires fits { AreShapedIn transaction.now assigns.now }
-        requires form { IsForm (program_of transaction.now) (map assignment_of assigns.now)
-            form.now }
-        requires room { IsSome (numbers_of self.old flow.now) }
-        requires range { IsMemoryInRange (program_of transaction.now)
+        requires can { CanRun transaction.now assigns.now form.now env.now
             (memory rank keeps.old (kept_or [] (numbers_of self.old flow.now))) }
+        requires room { IsSome (numbers_of self.old flow.now) }
         ensures ran { memory result keeps.new (kept_or [] (numbers_of self.new flow.now)) ≡
             run_of transaction.now env.entry.now assigns.now (memory rank keeps.old (kept_or [] (numbers_of self.old flow.now))) }
         ensures room { IsSome (numbers_of self.new flow.now) }

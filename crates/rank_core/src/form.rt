@@ -1,14 +1,15 @@
 //! Steps of a known form, which run without reading their assignments.
 
-ghost use Rattle.std.specs.Prelude.{◌≡◌, ◌<◌, ◌≤◌, ◌∷◌, ℕ, pos, [], length, map, IfSome};
+ghost use Rattle.std.specs.Prelude.{◌≡◌, ◌<◌, ◌≤◌, ◌∷◌, ℕ, [], length, map, IfSome};
 ghost use Rattle.rank_defs.specs.declared.expression.Var.{Var as Name};
 ghost use Rattle.rank_defs.specs.Formulas.{formula_of};
-ghost use Rattle.rank_defs.specs.Values.{num, apply, value_of};
-ghost use Rattle.rank_defs.specs.Programs.{Program, program_of, assignment_of, span, span_at, max_rank};
-ghost use Rattle.rank_defs.specs.Shapes.{IsEnvInRange, IsMemoryInRange, IsShaped, IsShapedAssignment};
-ghost use Rattle.rank_defs.specs.Steps.{clamped, run as run_program};
+ghost use Rattle.rank_defs.specs.Values.{value_of};
+ghost use Rattle.rank_defs.specs.Programs.{Program, program_of, assignment_of, span_at, max_rank};
+ghost use Rattle.rank_defs.specs.Shapes.{IsShaped, IsShapedAssignment};
+ghost use Rattle.rank_defs.specs.Steps.{run as run_program};
 ghost use Rattle.rank_core.specs.Forms.{latest, service, next, fair_lines, IsForm};
-ghost use Rattle.rank_core.specs.Scope.{memory, run_of, AreCheckedIn, AreShapedIn};
+ghost use Rattle.rank_core.specs.Runs.{CanRun};
+ghost use Rattle.rank_core.specs.Scope.{memory, run_of, AreShapedIn};
 
 use crate::step::run;
 use rank_defs::{Aim, Assign, Env, Expr, MAX_RANK, Op, Span, Transaction, Var};
@@ -176,31 +177,6 @@ pub fn pop_form(transaction: &Transaction) -> Form
     form_of(transaction, transaction.pop.as_slice())
 }
 
-#[inline(always)]
-fn greater(x: u64, y: u64) -> u64
-    ensures { result ≡ clamped (span 0 max_rank 0) (apply Op.Max (num (pos x)) (num (pos y))) }
-{
-    x.max(y).min(MAX_RANK)
-}
-
-#[inline(always)]
-fn served(len: u32, scale: u32, weight: u32) -> u64
-    requires { 1 ≤ weight }
-    ensures { apply Op.Div (apply Op.Mul (num (pos len)) (num (pos scale))) (num (pos weight)) ≡
-        num (pos result) }
-{
-    u64::from(len) * u64::from(scale) / u64::from(weight)
-}
-
-#[inline(always)]
-fn later(rank: u64, service: u64, span: &Span) -> u64
-    requires ends { span.now.low ≤ span.now.high }
-    requires most { span.now.high ≤ max_rank }
-    ensures { result ≡ clamped span.now (apply Op.Add (num (pos rank)) (num (pos service))) }
-{
-    rank.saturating_add(service).clamp(span.low, span.high)
-}
-
 /// Runs a push step of start-time fair queueing, and returns the rank.
 #[inline(always)]
 pub(crate) fn run_fair(fair: &Fair, env: &Env, keeps: &[u64], eaches: &mut [u64]) -> u64
@@ -213,9 +189,11 @@ pub(crate) fn run_fair(fair: &Fair, env: &Env, keeps: &[u64], eaches: &mut [u64]
         memory result keeps.now eaches.new ≡ run_program p env.entry.now (fair_lines fair.now) (memory r keeps.now eaches.old) }
 {
     let each = fair.each as usize;
-    let rank = greater(keeps[fair.keep as usize], eaches[each]);
-    let service = served(env.len, fair.scale, env.weight);
-    eaches[each] = later(rank, service, &fair.span);
+    let rank = keeps[fair.keep as usize].max(eaches[each]).min(MAX_RANK);
+    let service = u64::from(env.len) * u64::from(fair.scale) / u64::from(env.weight);
+    eaches[each] = rank
+        .saturating_add(service)
+        .clamp(fair.span.low, fair.span.high);
     rank
 }
 
@@ -230,12 +208,7 @@ pub(crate) fn run_by_form(
     keeps: &mut [u64],
     eaches: &mut [u64],
 ) -> u64
-    requires form { IsForm (program_of transaction.now) (map assignment_of assigns.now) form.now }
-    requires shaped { IsShaped (program_of transaction.now) }
-    requires told { IsEnvInRange env.now }
-    requires checked { AreCheckedIn transaction.now assigns.now }
-    requires fits { AreShapedIn transaction.now assigns.now }
-    requires range { IsMemoryInRange (program_of transaction.now)
+    requires { CanRun transaction.now assigns.now form.now env.now
         (memory rank keeps.old eaches.old) }
     ensures { memory result keeps.new eaches.new ≡
         run_of transaction.now env.entry.now assigns.now (memory rank keeps.old eaches.old) }

@@ -3,7 +3,6 @@
 #![tactic(auto)]
 
 mod builtins;
-mod eaches;
 mod evaluate;
 mod flows;
 mod form;
@@ -11,6 +10,7 @@ mod node;
 mod step;
 
 pub use builtins::builtin;
+pub use flows::{OrderedKey, key_of};
 pub use form::{Fair, Form, Kept, pop_form, push_form};
 pub use node::{NodeState, pop_by_form, push_by_form, run_pop, run_push};
 pub use rank_defs::{

@@ -1,20 +1,31 @@
 //! The variables of a node, and its steps.
 
-ghost use Rattle.std.specs.Prelude.{◌≡◌, ◌≢◌, ◌<◌, ◌≤◌, ◌↔◌, ℕ, pos, length, map, slice_set, Some, None, IfSome, IfOk, OnOk, OnErr};
-ghost use Rattle.rank_defs.specs.States.{SameState, Memory, first_state, firsts, put_back, variable_in};
-ghost use Rattle.rank_defs.specs.Values.{num};
-ghost use Rattle.rank_defs.specs.Steps.{clamped, push_rank, after_push, after_pop};
+ghost use Rattle.std.specs.Prelude.{◌≡◌, ◌≢◌, ◌<◌, ◌≤◌, ◌↔◌, ℕ, length, slice_get, [], IsSome, Some, None, IfSome, IfOk, OnOk, OnErr};
+ghost use Rattle.rank_defs.specs.States.{SameState, Memory, memory_for, first_state, firsts, put_back};
+ghost use Rattle.rank_defs.specs.Steps.{push_rank, after_push, after_pop};
 ghost use Rattle.rank_defs.specs.Shapes.{IsEnvInRange, IsStateInRange, IsShaped};
-ghost use Rattle.rank_defs.specs.Programs.{program_of, assignment_of, max_rank};
+ghost use Rattle.rank_defs.specs.Programs.{program_of, max_rank};
 ghost use Rattle.rank_defs.specs.Checks.{IsChecked};
-ghost use Rattle.rank_core.specs.Node.{state_of, children_of, BelongsTo, HasRoom, HasState, step_of};
+ghost use Rattle.rank_core.specs.Flows.{numbers_at};
+ghost use Rattle.rank_core.specs.Node.{kept, kept_or, children, memory_at, state_of, children_of, BelongsTo, HasRoom, HasState, step_of};
 ghost use Rattle.rank_core.specs.Forms.{IsForm};
-ghost use Rattle.rank_core.specs.Scope.{AreCheckedIn, AreShapedIn, run_of};
+ghost use Rattle.rank_core.specs.Runs.{CanRun};
+ghost use Rattle.rank_core.specs.Scope.{memory, run_of};
 
-use crate::eaches::{Eaches, of_children, of_flows, reserve, run_for};
-use crate::form::{Form, Kept, pop_form, push_form};
+use crate::flows::FlowTable;
+use crate::form::{Form, pop_form, push_form, run_by_form};
 use rank_defs::{Aim, Assign, Env, Expr, FlowKey, Span, Transaction, Var, Who};
 use std::alloc::{AllocError, Global};
+
+/// The values of the `each` variables: for all children of an inner node, or for the flows that
+/// have room at a leaf.
+#[derive(Drop)]
+enum Eaches {
+    Children(Vec<Vec<u64>>),
+    Flows(FlowTable),
+    /// A leaf whose flows have no variables. Every flow has room, and no flow is looked up.
+    Bare,
+}
 
 /// The variables of a node: its own, and those of each child or flow.
 #[derive(Drop)]
@@ -32,6 +43,31 @@ fn first_values(alloc: Global, spans: &[Span]) -> Result<Vec<u64>, AllocError>
         values.push(span.first)?;
     }
     Ok(values)
+}
+
+/// Returns the first values for `count` children.
+fn of_children(alloc: Global, first: &[u64], count: u32) -> Result<Eaches, AllocError>
+    ensures children { IfOk result (λ e. children e ≡ Some count) }
+    ensures room { IfOk result (λ e. (i : ℕ) → i < count → IsSome (kept e (Who.Child i))) }
+    ensures firsts { IfOk result (λ e. (who : Who) → kept_or first.now (kept e who) ≡ first.now) }
+{
+    let mut values = Vec::with_capacity(alloc, count as usize)?;
+    for _ in 0..count {
+        values.push(Vec::from_slice(alloc, first)?)?;
+    }
+    Ok(Eaches::Children(values))
+}
+
+/// Returns an empty flow table, or `Bare` if flows have no variables.
+fn of_flows(alloc: Global, first: &[u64]) -> Eaches
+    ensures children { children result ≡ None }
+    ensures firsts { (who : Who) → kept_or first.now (kept result who) ≡ first.now }
+{
+    if first.is_empty() {
+        Eaches::Bare
+    } else {
+        Eaches::Flows(FlowTable::new(alloc))
+    }
 }
 
 impl NodeState {
@@ -77,8 +113,8 @@ impl NodeState {
         })
     }
 
-    /// Makes room for a flow at a leaf. After that, its steps allocate no memory. The error means
-    /// out of memory.
+    /// Makes room for a flow at a leaf. After that, its steps allocate no memory. At a leaf whose
+    /// flows have no variables, the flow isn't read. The error means out of memory.
     #[inline(always)]
     pub fn reserve(&mut self, flow: &FlowKey) -> Result<(), AllocError>
         requires belongs { BelongsTo (children_of self.old) (Who.Flow flow.now) }
@@ -91,17 +127,27 @@ impl NodeState {
             HasRoom self.old other) }
         ensures children { children_of self.new ≡ children_of self.old }
     {
-        reserve(&mut self.eaches, flow, self.firsts.as_slice())
+        match &mut self.eaches {
+            Eaches::Bare => Ok(()),
+            Eaches::Flows(flows) => flows.reserve(flow, self.firsts.as_slice()),
+            Eaches::Children(_) => unreachable!(),
+        }
     }
 }
 
-/// Returns the value of a variable, if the environment alone determines it.
-#[inline]
-fn told_by(var: Var, env: &Env) -> Option<u64>
+/// Returns the rank, if the step only sets the rank to a variable of the environment.
+#[inline(never)]
+fn told_rank(assigns: &[Assign], env: &Env) -> Option<u64>
     requires told { IsEnvInRange env.now }
-    ensures value { IfSome result (λ r. (m : Memory) → variable_in env.entry.now m var ≡ r) }
-    ensures range { IfSome result (λ r. r ≤ max_rank) }
+    ensures rank { IfSome result (λ r. (t : Transaction) (m : Memory) →
+        run_of t env.entry.now assigns.now m ≡ record m { rank = r }) }
 {
+    let [assign] = assigns else {
+        return None;
+    };
+    let (Aim::Rank, Expr::Var(var)) = (assign.aim, &assign.value) else {
+        return None;
+    };
     match var {
         Var::Len => Some(u64::from(env.len)),
         Var::Now => Some(env.now),
@@ -112,32 +158,75 @@ fn told_by(var: Var, env: &Env) -> Option<u64>
     }
 }
 
-/// Returns the rank, if the step only sets the rank to a variable of the environment.
-#[inline]
-fn told_rank(assigns: &[Assign], env: &Env) -> Option<u64>
-    requires told { IsEnvInRange env.now }
-    ensures rank { IfSome result (λ r. (t : Transaction) (m : Memory) →
-        run_of t env.entry.now assigns.now m ≡ record m { rank = r }) }
+/// Runs assignments on the variables of a node and on those of one child or flow, which has room.
+#[inline(always)]
+fn run_for(
+    eaches: &mut Eaches,
+    who: &Who,
+    form: &Form,
+    transaction: &Transaction,
+    assigns: &[Assign],
+    env: &Env,
+    rank: u64,
+    keeps: &mut [u64],
+) -> u64
+    requires can { CanRun transaction.now assigns.now form.now env.now
+        (memory_at rank keeps.old eaches.old who.now) }
+    requires room { IsSome (kept eaches.old who.now) }
+    ensures ran { memory_at result keeps.new eaches.new who.now ≡
+        run_of transaction.now env.entry.now assigns.now (memory_at rank keeps.old eaches.old who.now) }
+    ensures room { IsSome (kept eaches.new who.now) }
+    ensures others { (w : Who) → w ≢ who.now → kept eaches.new w ≡ kept eaches.old w }
+    ensures children { children eaches.new ≡ children eaches.old }
 {
-    let [assign] = assigns else {
-        return None;
-    };
-    match (assign.aim, &assign.value) {
-        (Aim::Rank, Expr::Var(var)) => told_by(*var, env),
-        _ => None,
+    match eaches {
+        Eaches::Children(values) => match who {
+            Who::Child(child) => {
+                run_for_place(
+                    values,
+                    *child as usize,
+                    form,
+                    transaction,
+                    assigns,
+                    env,
+                    rank,
+                    keeps,
+                )
+            }
+            Who::Flow(_) => unreachable!(),
+        },
+        Eaches::Flows(flows) => match who {
+            Who::Flow(flow) => flows.run_for(flow, form, transaction, assigns, env, rank, keeps),
+            Who::Child(_) => unreachable!(),
+        },
+        Eaches::Bare => run_by_form(form, transaction, assigns, env, rank, keeps, &mut []),
     }
 }
 
+/// Runs assignments on the variables of a node and on those at an index.
 #[inline(always)]
-fn keep_rank(state: &mut NodeState, kept: &Kept, rank: u64)
-    requires there { kept.now.keep < length state.old.keeps.items }
-    requires span { kept.now.span.low ≤ kept.now.span.high }
-    ensures keeps { state.new.keeps.items ≡
-        slice_set state.old.keeps.items kept.now.keep (clamped kept.now.span (num (pos rank))) }
-    ensures firsts { state.new.firsts ≡ state.old.firsts }
-    ensures eaches { state.new.eaches ≡ state.old.eaches }
+#[tactic(auto, using(crate::proofs::Lists::get_set_same, crate::proofs::Lists::get_set_other))]
+pub(crate) fn run_for_place(
+    values: &mut Vec<Vec<u64>>,
+    place: usize,
+    form: &Form,
+    transaction: &Transaction,
+    assigns: &[Assign],
+    env: &Env,
+    rank: u64,
+    keeps: &mut [u64],
+) -> u64
+    requires can { CanRun transaction.now assigns.now form.now env.now
+        (memory rank keeps.old (kept_or [] (numbers_at values.old.items (Some place)))) }
+    requires there { place < length values.old.items }
+    ensures ran { memory result keeps.new (kept_or [] (numbers_at values.new.items (Some place))) ≡
+        run_of transaction.now env.entry.now assigns.now (memory rank keeps.old (kept_or [] (numbers_at values.old.items (Some place)))) }
+    ensures others { (i : ℕ) → i ≢ place → slice_get values.new.items i ≡
+        slice_get values.old.items i }
+    ensures count { length values.new.items ≡ length values.old.items }
 {
-    state.keeps[kept.keep as usize] = rank.clamp(kept.span.low, kept.span.high);
+    let values = values[place].as_mut_slice();
+    run_by_form(form, transaction, assigns, env, rank, keeps, values)
 }
 
 /// Runs a step by its form. A step without assignments changes nothing. A step that sets the rank
@@ -153,14 +242,9 @@ fn run_at(
     env: &Env,
     rank: u64,
 ) -> u64
-    requires shaped { IsShaped (program_of transaction.now) }
-    requires checked { AreCheckedIn transaction.now assigns.now }
-    requires fits { AreShapedIn transaction.now assigns.now }
-    requires form { IsForm (program_of transaction.now) (map assignment_of assigns.now) form.now }
-    requires in_range { IsStateInRange (program_of transaction.now) (state_of state.old) }
+    requires can { CanRun transaction.now assigns.now form.now env.now
+        (memory_for who.now rank (state_of state.old)) }
     requires room { HasRoom state.old who.now }
-    requires told { IsEnvInRange env.now }
-    requires rank { rank ≤ max_rank }
     ensures rank { result ≡ (step_of transaction.now assigns.now who.now env.entry.now rank
         state.old).rank }
     ensures after { HasState state.new
@@ -169,44 +253,18 @@ fn run_at(
     ensures children { children_of state.new ≡ children_of state.old }
 {
     match form {
-        Form::Empty => rank,
+        Form::Empty => return rank,
         Form::Kept(kept) => {
-            keep_rank(state, kept, rank);
-            rank
+            state.keeps[kept.keep as usize] = rank.clamp(kept.span.low, kept.span.high);
+            return rank;
         }
-        Form::Fair(_) => run_lines(state, who, form, transaction, assigns, env, rank),
-        Form::Lines => match told_rank(assigns, env) {
-            Some(told) => told,
-            None => run_lines(state, who, form, transaction, assigns, env, rank),
-        },
+        Form::Lines => {
+            if let Some(told) = told_rank(assigns, env) {
+                return told;
+            }
+        }
+        Form::Fair(_) => (),
     }
-}
-
-#[inline(always)]
-fn run_lines(
-    state: &mut NodeState,
-    who: &Who,
-    form: &Form,
-    transaction: &Transaction,
-    assigns: &[Assign],
-    env: &Env,
-    rank: u64,
-) -> u64
-    requires shaped { IsShaped (program_of transaction.now) }
-    requires checked { AreCheckedIn transaction.now assigns.now }
-    requires fits { AreShapedIn transaction.now assigns.now }
-    requires form { IsForm (program_of transaction.now) (map assignment_of assigns.now) form.now }
-    requires in_range { IsStateInRange (program_of transaction.now) (state_of state.old) }
-    requires room { HasRoom state.old who.now }
-    requires told { IsEnvInRange env.now }
-    requires rank { rank ≤ max_rank }
-    ensures rank { result ≡ (step_of transaction.now assigns.now who.now env.entry.now rank
-        state.old).rank }
-    ensures after { HasState state.new
-        (put_back who.now (step_of transaction.now assigns.now who.now env.entry.now rank state.old) (state_of state.old)) }
-    ensures room { (w : Who) → HasRoom state.new w ↔ HasRoom state.old w }
-    ensures children { children_of state.new ≡ children_of state.old }
-{
     let keeps = state.keeps.as_mut_slice();
     run_for(
         &mut state.eaches,

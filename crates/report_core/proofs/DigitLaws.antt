@@ -16,19 +16,20 @@ last_digit (suc tens) ones few fits =
     let step : decimal number ≡ decimal (number / 10) ++ ((48 + number % 10) ∷ []) = decimal_step number (omega arith) fits in
     sym (step ∙ ap (λ n. decimal n ++ ((48 + number % 10) ∷ [])) front ∙ ap (λ n. decimal (suc tens) ++ ((48 + n) ∷ [])) last)
 
--- a line that holds such bytes, with the last digit after the first `count` of them, holds the
--- number
-pub digits_in_line : (least count value at room end : ℕ) (bytes first line old : List ℕ) → AreTens least count bytes → least ≤ value → value < least + 10 → value < 2 ^ 64
+-- a line that holds such bytes, with the last digit and another byte after the first `count` of
+-- them, holds the number and that byte
+pub digits_in_line : (least count value at room end after : ℕ) (bytes first line old : List ℕ) → AreTens least count bytes → least ≤ value → value < least + 10 → value < 2 ^ 64
     → at ≤ length old → room ≡ at + length bytes → take room first ≡ take at old ++ bytes
-    → take end line ≡ take (at + count) first ++ (48 + (value - least)) ∷ [] → take end line ≡ take at old ++ decimal value
-digits_in_line least count value at room end bytes first line old kept low high fits within whole put last =
+    → take end line ≡ take (at + count) first ++ (48 + (value - least)) ∷ after ∷ [] → take end line ≡ take at old ++ decimal value ++ after ∷ []
+digits_in_line least count value at room end after bytes first line old kept low high fits within whole put last =
     let ones : ℕ = value - least in
     let number : 10 * kept.tens + ones ≡ value = omega arith in
     let digits = last_digit kept.tens ones (omega arith) (omega arith) in
     last
-    ∙ ap (λ l. l ++ (48 + ones) ∷ []) (part_put at count room old bytes first within kept.within whole put ∙ ap (λ l. take at old ++ l) kept.text)
-    ∙ append_assoc (take at old) (tens_text kept.tens) ((48 + ones) ∷ [])
-    ∙ ap (λ l. take at old ++ l) (digits ∙ ap decimal number)
+    ∙ ap (λ l. l ++ (48 + ones) ∷ after ∷ []) (part_put at count room old bytes first within kept.within whole put ∙ ap (λ l. take at old ++ l) kept.text)
+    ∙ sym (append_assoc (take at old ++ tens_text kept.tens) ((48 + ones) ∷ []) (after ∷ []))
+    ∙ ap (λ l. l ++ after ∷ []) (append_assoc (take at old) (tens_text kept.tens) ((48 + ones) ∷ [])
+    ∙ ap (λ l. take at old ++ l) (digits ∙ ap decimal number))
 
 -- the number of digits of a number
 pub count_of_digits : (k n : ℕ) → 10 ^ k ≤ n → n < 10 * 10 ^ k → n < 2 ^ 64 → length (decimal n) ≡ k + 1

@@ -1,14 +1,14 @@
 -- The lines of a report, put together from the left.
 use Rattle.std.proofs.Common.{◌≡◌, ℕ, Option, None, Some, MatchOption, List, [], ◌∷◌, ◌++◌, decimal, codes, ap, ◌∙◌, append_assoc}
-use Rattle.outside_core.specs.Report.{line_of, departure_line, end_line, ranks_text}
+use Rattle.outside_core.specs.Report.{line_of, end_line}
 
-pub five_words : (t e p l r : List ℕ) (letter : ℕ) → t ++ letter ∷ [] ++ 32 ∷ [] ++ e ++ 32 ∷ [] ++ p ++ 32 ∷ [] ++ l ++ 32 ∷ [] ++ r ++ 10 ∷ [] ≡ t ++ line_of ((letter ∷ []) ∷ e ∷ p ∷ l ∷ r ∷ [])
+pub five_words : (t e p l r : List ℕ) (letter : ℕ) → t ++ letter ∷ 32 ∷ [] ++ e ++ 32 ∷ [] ++ p ++ 32 ∷ [] ++ l ++ 32 ∷ [] ++ r ++ 10 ∷ [] ≡ t ++ line_of ((letter ∷ []) ∷ e ∷ p ∷ l ∷ r ∷ [])
 five_words t e p l r letter = simp append_assoc
 
-pub six_words : (t e p l r s : List ℕ) (letter : ℕ) → t ++ letter ∷ [] ++ 32 ∷ [] ++ e ++ 32 ∷ [] ++ p ++ 32 ∷ [] ++ l ++ 32 ∷ [] ++ r ++ 32 ∷ [] ++ s ++ 10 ∷ [] ≡ t ++ line_of ((letter ∷ []) ∷ e ∷ p ∷ l ∷ r ∷ s ∷ [])
+pub six_words : (t e p l r s : List ℕ) (letter : ℕ) → t ++ letter ∷ 32 ∷ [] ++ e ++ 32 ∷ [] ++ p ++ 32 ∷ [] ++ l ++ 32 ∷ [] ++ r ++ 32 ∷ [] ++ s ++ 10 ∷ [] ≡ t ++ line_of ((letter ∷ []) ∷ e ∷ p ∷ l ∷ r ∷ s ∷ [])
 six_words t e p l r s letter = simp append_assoc
 
-pub four_words : (t e p l : List ℕ) (letter : ℕ) → t ++ letter ∷ [] ++ 32 ∷ [] ++ e ++ 32 ∷ [] ++ p ++ 32 ∷ [] ++ l ++ 10 ∷ [] ≡ t ++ line_of ((letter ∷ []) ∷ e ∷ p ∷ l ∷ [])
+pub four_words : (t e p l : List ℕ) (letter : ℕ) → t ++ letter ∷ 32 ∷ [] ++ e ++ 32 ∷ [] ++ p ++ 32 ∷ [] ++ l ++ 10 ∷ [] ≡ t ++ line_of ((letter ∷ []) ∷ e ∷ p ∷ l ∷ [])
 four_words t e p l letter = simp append_assoc
 
 pub two_words : (t e : List ℕ) → t ++ codes "e " ++ e ++ 10 ∷ [] ≡ t ++ line_of (codes "e" ∷ e ∷ [])
@@ -16,16 +16,6 @@ two_words t e = simp append_assoc
 
 pub fault_words : (t k c p : List ℕ) → t ++ codes "fault " ++ k ++ 32 ∷ [] ++ c ++ 32 ∷ [] ++ p ++ 10 ∷ [] ≡ t ++ line_of (codes "fault" ∷ k ∷ c ∷ p ∷ [])
 fault_words t k c p = simp append_assoc
-
--- also if the start is shown
-pub departure_words : (start : Option ℕ) (event packet : ℕ) (leaf ranks t before after : List ℕ)
-    → before ≡ t ++ 100 ∷ [] ++ 32 ∷ [] ++ decimal event ++ 32 ∷ [] ++ decimal packet ++ 32 ∷ [] ++ leaf ++ 32 ∷ [] ++ ranks_text ranks
-    → MatchOption start (after ≡ before) (λ moment. after ≡ before ++ 32 ∷ [] ++ decimal moment)
-    → after ++ 10 ∷ [] ≡ t ++ departure_line event packet leaf ranks start
-departure_words None event packet leaf ranks t before after is put =
-    ap (λ s. s ++ 10 ∷ []) (put ∙ is) ∙ five_words t (decimal event) (decimal packet) leaf (ranks_text ranks) 100
-departure_words (Some moment) event packet leaf ranks t before after is put =
-    ap (λ s. s ++ 10 ∷ []) (put ∙ ap (λ s. s ++ 32 ∷ [] ++ decimal moment) is) ∙ six_words t (decimal event) (decimal packet) leaf (ranks_text ranks) (decimal moment) 100
 
 abbrev pub counts_text : List ℕ → ℕ → ℕ → ℕ → ℕ → ℕ → List ℕ
 counts_text t pushed popped empty held unsent =

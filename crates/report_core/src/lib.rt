@@ -3,10 +3,9 @@
 
 mod buffer;
 mod fault;
-mod forward;
+mod last;
 mod line;
 mod report;
-mod tens;
 mod whole;
 
 pub use fault::{FaultKind, WriteFault};

@@ -1,16 +1,18 @@
-//! The lines of a report as bytes.
-ghost use Rattle.std.specs.Prelude.{◌≡◌, ◌+◌, ◌≤◌, ◌∷◌, [], ◌++◌, length, take, decimal, codes, MatchOption};
+//! The lines of a report as bytes, each written at an offset from its beginning to its end. The bytes
+//! after those written may change.
+ghost use Rattle.std.specs.Prelude.{◌≡◌, ◌+◌, ◌*◌, ◌/◌, ◌<◌, ◌≤◌, [], ◌∷◌, ◌++◌, length, take, decimal};
 ghost use Rattle.text_core.specs.Tokens.{most_name};
-ghost use Rattle.outside_core.specs.Report.{arrival_line, departure_line, drop_line, empty_line, end_line, fault_line, ranks_text};
-ghost use Rattle.report_core.specs.Faults.{word_of};
+ghost use Rattle.outside_core.specs.Report.{arrival_line, departure_line, drop_line, empty_line, ranks_text};
 ghost use Rattle.report_core.specs.Gathered.{line_room};
 
-use crate::fault::FaultKind;
-use crate::forward::{put_array, put_byte, put_bytes, put_name, put_number, put_ranks, put_wide};
-use crate::tens::Tens;
+use itoa::{Buffer, write_digits};
+use std::marker::Model;
 
 /// Room for the longest line and for the bytes after it that may change, in bytes.
 pub const LINE: usize = 2_048;
+
+/// Room for the digits of any number, in bytes.
+const DIGITS: usize = 20;
 
 /// The leading digits of the numbers in earlier lines.
 #[derive(Drop)]
@@ -18,80 +20,6 @@ pub struct Line {
     events: Tens,
     arrivals: Tens,
     departures: Tens,
-}
-
-/// Writes a leaf and its ranks, with a space before each.
-#[inline(always)]
-fn put_leaf(line: &mut [u8], at: usize, leaf: &str, ranks: &[u64]) -> usize
-    requires leaf { length leaf.now ≤ most_name }
-    requires few { length ranks.now ≤ 65 }
-    requires room { at + 1431 ≤ length line.old }
-    ensures text { take result line.new ≡ take at line.old ++ 32 ∷ [] ++ leaf.now ++ 32 ∷ []
-        ++ ranks_text ranks.now }
-    ensures short { result ≤ at + 1431 }
-    ensures length { length line.new ≡ length line.old }
-{
-    let leaf_at = put_byte(line, at, b' ');
-    let leaf_end = put_name(line, leaf_at, leaf.as_bytes());
-    let ranks_at = put_byte(line, leaf_end, b' ');
-    put_ranks(line, ranks_at, ranks)
-}
-
-/// Writes the letter of an outcome and its event number, with a space after each.
-#[inline(always)]
-fn put_event(line: &mut [u8], at: usize, letter: u8, events: &mut Tens, event: u64) -> usize
-    requires room { at + 24 ≤ length line.old }
-    ensures text { take result line.new ≡ take at line.old ++ letter ∷ [] ++ 32 ∷ []
-        ++ decimal event ++ 32 ∷ [] }
-    ensures short { result ≤ at + 24 }
-    ensures length { length line.new ≡ length line.old }
-{
-    let space_at = put_byte(line, at, letter);
-    let event_at = put_byte(line, space_at, b' ');
-    let event_end = events.put(line, event_at, event);
-    put_byte(line, event_end, b' ')
-}
-
-/// Writes the timestamp at which a departure starts, if it is shown.
-#[inline(always)]
-fn put_start(line: &mut [u8], at: usize, start: Option<u128>) -> usize
-    requires room { at + 40 ≤ length line.old }
-    ensures text { MatchOption start (take result line.new ≡ take at line.old)
-        (λ moment. take result line.new ≡ take at line.old ++ 32 ∷ [] ++ decimal moment) }
-    ensures short { result ≤ at + 40 }
-    ensures length { length line.new ≡ length line.old }
-{
-    let Some(start) = start else {
-        return at;
-    };
-    let start_at = put_byte(line, at, b' ');
-    put_wide(line, start_at, start)
-}
-
-/// Writes a number of the last line, with its word before it.
-fn put_count(line: &mut [u8], at: usize, word: &[u8], count: u64) -> usize
-    requires word { length word.now ≤ 9 }
-    requires room { at + 29 ≤ length line.old }
-    ensures text { take result line.new ≡ take at line.old ++ word.now ++ decimal count }
-    ensures short { result ≤ at + 29 }
-    ensures length { length line.new ≡ length line.old }
-{
-    let word_end = put_bytes(line, at, word);
-    put_number(line, word_end, count)
-}
-
-/// Writes the count of dropped packets, if it is shown.
-fn put_dropped(line: &mut [u8], at: usize, dropped: Option<u64>) -> usize
-    requires room { at + 29 ≤ length line.old }
-    ensures text { MatchOption dropped (take result line.new ≡ take at line.old)
-        (λ count. take result line.new ≡ take at line.old ++ codes " dropped " ++ decimal count) }
-    ensures short { result ≤ at + 29 }
-    ensures length { length line.new ≡ length line.old }
-{
-    let Some(dropped) = dropped else {
-        return at;
-    };
-    put_count(line, at, b" dropped ", dropped)
 }
 
 impl Line {
@@ -123,10 +51,12 @@ impl Line {
         ensures within { result ≤ length line.new }
         ensures length { length line.new ≡ length line.old }
     {
-        let packet_at = put_event(line, at, b'a', &mut self.events, event);
-        let packet_end = self.arrivals.put(line, packet_at, packet);
-        let end = put_leaf(line, packet_end, leaf, ranks);
-        put_byte(line, end, b'\n')
+        let event_at = put_array(line, at, *b"a ");
+        let packet_at = self.events.put(line, event_at, event, b' ');
+        let leaf_at = self.arrivals.put(line, packet_at, packet, b' ');
+        let leaf_end = put_name(line, leaf_at, leaf);
+        let end = put_ranks(line, leaf_end, ranks);
+        put_array(line, end, *b"\n")
     }
 
     #[inline(always)]
@@ -148,11 +78,17 @@ impl Line {
         ensures within { result ≤ length line.new }
         ensures length { length line.new ≡ length line.old }
     {
-        let packet_at = put_event(line, at, b'd', &mut self.events, event);
-        let packet_end = self.departures.put(line, packet_at, packet);
-        let visit_end = put_leaf(line, packet_end, leaf, ranks);
-        let end = put_start(line, visit_end, start);
-        put_byte(line, end, b'\n')
+        let event_at = put_array(line, at, *b"d ");
+        let packet_at = self.events.put(line, event_at, event, b' ');
+        let leaf_at = self.departures.put(line, packet_at, packet, b' ');
+        let leaf_end = put_name(line, leaf_at, leaf);
+        let ranks_end = put_ranks(line, leaf_end, ranks);
+        let Some(start) = start else {
+            return put_array(line, ranks_end, *b"\n");
+        };
+        let start_at = put_array(line, ranks_end, *b" ");
+        let end = put_wide(line, start_at, start);
+        put_array(line, end, *b"\n")
     }
 
     pub fn dropped(
@@ -169,11 +105,11 @@ impl Line {
         ensures within { result ≤ length line.new }
         ensures length { length line.new ≡ length line.old }
     {
-        let packet_at = put_event(line, at, b'x', &mut self.events, event);
-        let packet_end = self.arrivals.put(line, packet_at, packet);
-        let leaf_at = put_byte(line, packet_end, b' ');
-        let end = put_name(line, leaf_at, leaf.as_bytes());
-        put_byte(line, end, b'\n')
+        let event_at = put_array(line, at, *b"x ");
+        let packet_at = self.events.put(line, event_at, event, b' ');
+        let leaf_at = self.arrivals.put(line, packet_at, packet, b' ');
+        let end = put_name(line, leaf_at, leaf);
+        put_array(line, end, *b"\n")
     }
 
     pub fn empty(&mut self, line: &mut [u8], at: usize, event: u64) -> usize
@@ -183,57 +119,169 @@ impl Line {
         ensures length { length line.new ≡ length line.old }
     {
         let event_at = put_array(line, at, *b"e ");
-        let end = self.events.put(line, event_at, event);
-        put_byte(line, end, b'\n')
+        self.events.put(line, event_at, event, b'\n')
+    }
+}
+
+/// The digits of a number without its last one, stored for the next number. Numbers such as those of
+/// events follow one another, and the next one often differs only in its last digit.
+#[derive(Drop)]
+struct Tens {
+    /// The least number with these digits.
+    least: u64,
+    count: usize,
+    digits: [u8; DIGITS],
+}
+
+impl Model for Tens {
+    ghost use Rattle.std.specs.Prelude.{ℕ};
+    ghost use Rattle.report_core.specs.Digits.{AreTens};
+
+    ghost Value = { ℕ };
+
+    ghost view = { λ t. t.least };
+
+    ghost invariant = { λ t. AreTens t.least t.count t.digits };
+}
+
+impl Tens {
+    fn new() -> Tens {
+        Tens {
+            least: 0,
+            count: 0,
+            digits: [0; DIGITS],
+        }
     }
 
-    pub fn end(
-        &mut self,
-        line: &mut [u8],
-        at: usize,
-        pushed: u64,
-        popped: u64,
-        empty: u64,
-        held: u64,
-        unsent: u64,
-        dropped: Option<u64>,
-    ) -> usize
-        requires room { at + line_room ≤ length line.old }
-        ensures text { take result line.new ≡ take at line.old ++ end_line pushed popped empty held
-            unsent dropped }
-        ensures within { result ≤ length line.new }
+    /// Writes the digits of a number and the byte after them.
+    #[inline(always)]
+    fn put(&mut self, line: &mut [u8], at: usize, value: u64, after: u8) -> usize
+        requires room { at + 22 ≤ length line.old }
+        ensures text { take result line.new ≡ take at line.old ++ decimal value ++ after ∷ [] }
+        ensures short { result ≤ at + 22 }
         ensures length { length line.new ≡ length line.old }
     {
-        let word_end = put_bytes(line, at, b"end");
-        let pushed_end = put_count(line, word_end, b" pushed ", pushed);
-        let popped_end = put_count(line, pushed_end, b" popped ", popped);
-        let empty_end = put_count(line, popped_end, b" empty ", empty);
-        let held_end = put_count(line, empty_end, b" held ", held);
-        let unsent_end = put_count(line, held_end, b" unsent ", unsent);
-        let end = put_dropped(line, unsent_end, dropped);
-        put_byte(line, end, b'\n')
+        if value < self.least || value - self.least >= 10 {
+            self.renew(value);
+        }
+        put_array(line, at, self.digits);
+        let last = b'0' + (value - self.least) as u8;
+        put_array(line, at + self.count, [last, after])
     }
 
-    pub fn fault(
-        &mut self,
-        line: &mut [u8],
-        at: usize,
-        kind: FaultKind,
-        code: u32,
-        place: u64,
-    ) -> usize
-        requires room { at + line_room ≤ length line.old }
-        ensures text { take result line.new ≡
-            take at line.old ++ fault_line (word_of kind) code place }
-        ensures within { result ≤ length line.new }
-        ensures length { length line.new ≡ length line.old }
+    #[cold]
+    fn renew(&mut self, value: u64)
+        ensures near { self.new ≡ 10 * (value / 10) }
     {
-        let kind_at = put_bytes(line, at, b"fault ");
-        let kind_end = put_bytes(line, kind_at, kind.word().as_bytes());
-        let code_at = put_byte(line, kind_end, b' ');
-        let code_end = put_number(line, code_at, code as u64);
-        let place_at = put_byte(line, code_end, b' ');
-        let end = put_number(line, place_at, place);
-        put_byte(line, end, b'\n')
+        let tens = value / 10;
+        self.least = 10 * tens;
+        self.count = if tens == 0 {
+            0
+        } else {
+            put_number(&mut self.digits, 0, tens)
+        };
     }
+}
+
+/// Writes a fixed number of bytes at an offset, and returns the offset after them.
+#[inline(always)]
+pub fn put_array<const N: usize>(line: &mut [u8], at: usize, bytes: [u8; N]) -> usize
+    requires room { at + N ≤ length line.old }
+    ensures text { take result line.new ≡ take at line.old ++ bytes.entry }
+    ensures end { result ≡ at + N }
+    ensures length { length line.new ≡ length line.old }
+{
+    // The copy of the array cannot overlap the line, so this is one read and one write.
+    line[at..at + N].copy_from_slice(&bytes);
+    at + N
+}
+
+/// Writes any number of bytes in the same way.
+pub fn put_bytes(line: &mut [u8], at: usize, bytes: &[u8]) -> usize
+    requires room { at + length bytes.now ≤ length line.old }
+    ensures text { take result line.new ≡ take at line.old ++ bytes.now }
+    ensures end { result ≡ at + length bytes.now }
+    ensures length { length line.new ≡ length line.old }
+{
+    let end = at + bytes.len();
+    line[at..end].copy_from_slice(bytes);
+    end
+}
+
+/// Writes a name in the same way. Most names are short: their first bytes and their last ones, which
+/// may overlap, are two reads and two writes.
+#[inline(always)]
+fn put_name(line: &mut [u8], at: usize, name: &str) -> usize
+    requires room { at + length name.now ≤ length line.old }
+    ensures text { take result line.new ≡ take at line.old ++ name.now }
+    ensures end { result ≡ at + length name.now }
+    ensures length { length line.new ≡ length line.old }
+{
+    let bytes = name.as_bytes();
+    if bytes.len() >= 4 && bytes.len() <= 8 {
+        let (Some(first), Some(last)) = (bytes.first_chunk::<4>(), bytes.last_chunk::<4>()) else {
+            unreachable!()
+        };
+        put_array(line, at, *first);
+        return put_array(line, at + bytes.len() - 4, *last);
+    }
+    if bytes.len() >= 2 && bytes.len() <= 3 {
+        let (Some(first), Some(last)) = (bytes.first_chunk::<2>(), bytes.last_chunk::<2>()) else {
+            unreachable!()
+        };
+        put_array(line, at, *first);
+        return put_array(line, at + bytes.len() - 2, *last);
+    }
+    put_bytes(line, at, bytes)
+}
+
+/// Writes the digits of a number in the same way.
+#[inline(always)]
+pub fn put_number(line: &mut [u8], at: usize, value: u64) -> usize
+    requires room { at + 20 ≤ length line.old }
+    ensures text { take result line.new ≡ take at line.old ++ decimal value }
+    ensures short { result ≤ at + 20 }
+    ensures length { length line.new ≡ length line.old }
+{
+    if value < 10 {
+        return put_array(line, at, [b'0' + value as u8]);
+    }
+    let end = at + value.ilog10() as usize + 1;
+    write_digits(value, line, end);
+    end
+}
+
+/// Writes a number of up to 128 bits in the same way.
+#[inline(always)]
+fn put_wide(line: &mut [u8], at: usize, value: u128) -> usize
+    requires room { at + 39 ≤ length line.old }
+    ensures text { take result line.new ≡ take at line.old ++ decimal value }
+    ensures short { result ≤ at + 39 }
+    ensures length { length line.new ≡ length line.old }
+{
+    match u64::try_from(value) {
+        Ok(value) => put_number(line, at, value),
+        Err(_) => put_bytes(line, at, Buffer::new().format(value).as_bytes()),
+    }
+}
+
+/// Writes a space, and then ranks joined by `/`.
+#[inline(always)]
+fn put_ranks(line: &mut [u8], at: usize, ranks: &[u64]) -> usize
+    requires few { length ranks.now ≤ 65 }
+    requires room { at + 1366 ≤ length line.old }
+    ensures text { take result line.new ≡ take at line.old ++ 32 ∷ [] ++ ranks_text ranks.now }
+    ensures short { result ≤ at + 1366 }
+    ensures length { length line.new ≡ length line.old }
+{
+    let mut end = put_array(line, at, *b" ");
+    let [first, others @ ..] = ranks else {
+        return end;
+    };
+    end = put_number(line, end, *first);
+    for rank in others {
+        end = put_array(line, end, *b"/");
+        end = put_number(line, end, *rank);
+    }
+    end
 }

@@ -10,6 +10,7 @@ ghost use Rattle.report_core.specs.Gathered.{limit, text_of, Tells, CutsOff};
 
 use crate::buffer::Buffer;
 use crate::fault::{FaultKind, WriteFault};
+use crate::last::{put_end, put_fault};
 use crate::line::Line;
 use outside_core::Sink;
 use std::alloc::{AllocError, Global};
@@ -21,7 +22,6 @@ use std::marker::Model;
 pub struct Report {
     buffer: Buffer,
     line: Line,
-    live: bool,
 }
 
 impl Model for Report {
@@ -30,7 +30,7 @@ impl Model for Report {
 
     ghost Value = { Gathered };
 
-    ghost view = { λ r. record { unwritten = take r.buffer.held r.buffer.bytes.items; live = r.live } };
+    ghost view = { λ r. record { unwritten = take r.buffer.held r.buffer.bytes.items; live = r.buffer.live } };
 
     ghost invariant = { λ r. HasRoom r.buffer.held r.buffer.bytes.items };
 }
@@ -43,25 +43,13 @@ impl Report {
         Ok(Report {
             buffer: Buffer::new(alloc)?,
             line: Line::new(),
-            live: true,
         })
     }
 
     pub fn live(&self) -> bool
         ensures { result ≡ self.now.live }
     {
-        self.live
-    }
-
-    /// Records whether the bytes were written.
-    #[inline(always)]
-    fn noted(&mut self, sent: Result<(), WriteFault>) -> Result<(), WriteFault>
-        ensures same { result ≡ sent }
-        ensures live { self.new.live ≡ is_ok sent }
-        ensures unwritten { self.new.unwritten ≡ self.old.unwritten }
-    {
-        self.live = sent.is_ok();
-        sent
+        self.buffer.live
     }
 
     /// Reports a packet that arrived at a leaf, with the ranks pushed from the root down.
@@ -95,8 +83,7 @@ impl Report {
             leaf,
             ranks,
         );
-        let sent = self.buffer.close(sink, end);
-        self.noted(sent)
+        self.buffer.close(sink, end)
     }
 
     /// Reports a packet that departed from a leaf, with the ranks popped from the root down. The
@@ -133,8 +120,7 @@ impl Report {
             ranks,
             start,
         );
-        let sent = self.buffer.close(sink, end);
-        self.noted(sent)
+        self.buffer.close(sink, end)
     }
 
     /// Reports a departure that found nothing to send.
@@ -153,8 +139,7 @@ impl Report {
         let end = self
             .line
             .empty(&mut self.buffer.bytes, self.buffer.held, event);
-        let sent = self.buffer.close(sink, end);
-        self.noted(sent)
+        self.buffer.close(sink, end)
     }
 
     /// Reports a packet that was dropped at a full leaf.
@@ -184,8 +169,7 @@ impl Report {
             packet,
             leaf,
         );
-        let sent = self.buffer.close(sink, end);
-        self.noted(sent)
+        self.buffer.close(sink, end)
     }
 
     /// Reports the end of the run: how many packets were pushed and popped, how many departures
@@ -212,7 +196,7 @@ impl Report {
         ensures live { self.new.live ≡ is_ok result }
         ensures bounded { length self.new.unwritten ≤ limit }
     {
-        let end = self.line.end(
+        let end = put_end(
             &mut self.buffer.bytes,
             self.buffer.held,
             pushed,
@@ -222,8 +206,7 @@ impl Report {
             unsent,
             dropped,
         );
-        let sent = self.buffer.close(sink, end);
-        self.noted(sent)
+        self.buffer.close(sink, end)
     }
 
     /// Reports a rejected input. The position (`place`) is a line, record or event number, or 0 if
@@ -246,9 +229,8 @@ impl Report {
         ensures live { self.new.live ≡ is_ok result }
         ensures bounded { length self.new.unwritten ≤ limit }
     {
-        let end = self.line.fault(&mut self.buffer.bytes, self.buffer.held, kind, code, place);
-        let sent = self.buffer.close(sink, end);
-        self.noted(sent)
+        let end = put_fault(&mut self.buffer.bytes, self.buffer.held, kind, code, place);
+        self.buffer.close(sink, end)
     }
 
     /// Adds any number of bytes, unchanged.
@@ -262,8 +244,7 @@ impl Report {
         ensures live { self.new.live ≡ is_ok result }
         ensures bounded { length self.new.unwritten ≤ limit }
     {
-        let sent = self.buffer.put_or_send(sink, bytes);
-        self.noted(sent)
+        self.buffer.put_or_send(sink, bytes)
     }
 
     /// Writes the bytes held. The sink then has the whole text.
@@ -279,7 +260,6 @@ impl Report {
             (K.written sink.new) []) }
         ensures none_left { OnOk result (self.new.unwritten ≡ []) }
     {
-        let sent = self.buffer.flush(sink);
-        self.noted(sent)
+        self.buffer.flush(sink)
     }
 }

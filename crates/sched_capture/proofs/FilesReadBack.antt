@@ -1,5 +1,5 @@
 -- The departures forwarded of a file are read back.
-use Rattle.sched_capture.proofs.Prelude.{◌≡◌, List, Some, ℕ, None, Option, arith, [], refl, ◌+◌, ◌∷◌, Bool, false, length, true, ◌≤◌, ◌<◌, if◌then◌else◌, map, ◌^◌, ◌==◌, length-map, AllByRecursion, list_all, unwrap_or, other_link, behind_packet, first_link, of_link, of_one_link, FileContents, holds, no_capture, Contents, FaultAt, CapturedPacket, most_captured, in_file, Resolved, IsSendable, AreNumberedFrom, captured_from, LinkRate, forward_over, class_given, packets_from, one_link_in, link_in, ahead_in}
+use Rattle.sched_capture.proofs.Prelude.{◌≡◌, List, Some, ℕ, None, Option, arith, [], refl, ◌+◌, ◌∷◌, Bool, false, length, true, ◌≤◌, ◌<◌, if◌then◌else◌, ◌^◌, ◌==◌, length-map, AllByRecursion, unwrap_or, other_link, behind_packet, first_link, of_link, of_one_link, FileContents, holds, no_capture, Contents, FaultAt, CapturedPacket, most_captured, in_file, Resolved, IsSendable, AreNumberedFrom, captured_from, LinkRate, forward_over, class_given, packets_from, one_link_in, link_in, ahead_in}
 use Rattle.std.proofs.lemmas.List.Quantifiers.{position-Some}
 use Rattle.packet_defs.specs.declared.extra.Header.{Header}
 use Rattle.packet_defs.specs.Test.{belongs, class_among}

@@ -1,13 +1,12 @@
 //! The packets of a capture, one by one.
-ghost use Rattle.std.specs.Prelude.{◌≡◌, ◌+◌, Some, true, false, is_some, if◌then◌else◌, IfOk, IfErr, IfSome, IfNone, OnOk, IsErrOf, IsTrue};
+ghost use Rattle.std.specs.Prelude.{◌≡◌, ◌+◌, true, false, is_some, if◌then◌else◌, IfOk, IfErr, IfSome, IfNone, OnOk, IsErrOf, IsTrue};
 ghost use Rattle.outside_core.specs.Faults.{Rose};
 ghost use Rattle.outside_core.specs.Kept.{KeepsShelf};
-ghost use Rattle.pcap_core.specs.Captures.{Opens, IsOneLess, IsAt, StopsAt, nothing_left};
+ghost use Rattle.pcap_core.specs.Captures.{Opens, IsOneLess, StopsAt};
 ghost use Rattle.pcap_core.specs.Held.{held};
 ghost use Rattle.pcap_core.specs.Rest.{rest_of};
-ghost use Rattle.sched_capture.specs.NextPacket.{IsNext};
+ghost use Rattle.sched_capture.specs.NextPacket.{IsNext, IsEnd, KeepsSource};
 
-use crate::packets::put_packet;
 use outside_core::{ReadError, Shelf};
 use packet_core::{Classifier, Packet};
 use pcap_core::{CaptureReader, Window};
@@ -78,19 +77,15 @@ impl<'a, R: CaptureReader + Drop, S: Shelf> Arrivals<'a, R, S> {
             (given_by R.given self.old)
             (contents_of R.left self.old (S.left source.old)) (contents_of R.left self.new (S.left source.new))
             link packet.new (captured_by R.captured_of self.new))) }
-        ensures ended { IfOk result (λ o. IfNone o (IsAt None
-            (contents_of R.left self.old (S.left source.old)))) }
-        ensures over { IfOk result (λ o. IfNone o (contents_of R.left self.new (S.left source.new) ≡
-            Some nothing_left)) }
+        ensures ended { IfOk result (λ o. IfNone o (IsEnd
+            (contents_of R.left self.old (S.left source.old)) (contents_of R.left self.new (S.left source.new)))) }
         ensures fault { IfErr result (StopsAt (contents_of R.left self.old (S.left source.old))) }
 
         ensures given { IfOk result (λ o. given_by R.given self.new ≡ given_by R.given self.old +
             (if is_some o then 1 else 0)) }
         ensures ready { OnOk result (IsReady R.ready R.given self.new (S.begun source.new)) }
         ensures policy { resolved_of self.new ≡ resolved_of self.old }
-        ensures kept { KeepsShelf S.lends S.content S.faults source.old source.new }
-        ensures cause { IsErrOf result ReadError.Source → Rose (S.faults source.old)
-            (S.faults source.new) }
+        ensures keeps { KeepsSource S.Shelf result source.old source.new }
     {
         if self.over {
             return Ok(None);
@@ -98,7 +93,10 @@ impl<'a, R: CaptureReader + Drop, S: Shelf> Arrivals<'a, R, S> {
         match self.reader.next_in_place(source, &mut self.bytes)? {
             Some(read) => {
                 let captured = self.reader.captured(&self.bytes);
-                put_packet(&self.classifier, &read, captured, packet);
+                packet.number = read.frame.number;
+                packet.len = read.frame.len;
+                packet.moment = read.frame.moment;
+                self.classifier.classify(read.link, captured, packet);
                 Ok(Some(read.link))
             }
             None => {
@@ -115,19 +113,15 @@ impl<'a, R: CaptureReader + Drop, S: Shelf> Arrivals<'a, R, S> {
 
         ensures comes { IfOk result (λ some. some ≡ true → IsOneLess
             (contents_of R.left self.old (S.left source.old)) (contents_of R.left self.new (S.left source.new))) }
-        ensures ended { IfOk result (λ some. some ≡ false → IsAt None
-            (contents_of R.left self.old (S.left source.old))) }
-        ensures over { IfOk result (λ some. some ≡ false →
-            contents_of R.left self.new (S.left source.new) ≡ Some nothing_left) }
+        ensures ended { IfOk result (λ some. some ≡ false → IsEnd
+            (contents_of R.left self.old (S.left source.old)) (contents_of R.left self.new (S.left source.new))) }
         ensures fault { IfErr result (StopsAt (contents_of R.left self.old (S.left source.old))) }
 
         ensures given { IfOk result (λ some. given_by R.given self.new ≡ given_by R.given self.old +
             (if some then 1 else 0)) }
         ensures ready { OnOk result (IsReady R.ready R.given self.new (S.begun source.new)) }
         ensures policy { resolved_of self.new ≡ resolved_of self.old }
-        ensures kept { KeepsShelf S.lends S.content S.faults source.old source.new }
-        ensures cause { IsErrOf result ReadError.Source → Rose (S.faults source.old)
-            (S.faults source.new) }
+        ensures keeps { KeepsSource S.Shelf result source.old source.new }
     {
         if self.over {
             return Ok(false);

@@ -1,11 +1,11 @@
 //! The packets of a capture of either format.
-ghost use Rattle.std.specs.Prelude.{◌≡◌, ◌+◌, Some, is_some, if◌then◌else◌, IfOk, IfErr, IfSome, IfNone, OnOk, IsErrOf, IsTrue};
+ghost use Rattle.std.specs.Prelude.{◌≡◌, ◌+◌, is_some, if◌then◌else◌, IfOk, IfErr, IfSome, IfNone, OnOk, IsErrOf, IsTrue};
 ghost use Rattle.outside_core.specs.Faults.{Rose};
 ghost use Rattle.outside_core.specs.Kept.{KeepsShelf};
-ghost use Rattle.pcap_core.specs.Captures.{Opens, IsAt, StopsAt, nothing_left};
+ghost use Rattle.pcap_core.specs.Captures.{Opens, StopsAt};
 ghost use Rattle.pcapng_defs.specs.NgContents.{in_file};
 ghost use Rattle.sched_capture.specs.Arrivals.{Begins, Refuses};
-ghost use Rattle.sched_capture.specs.NextPacket.{IsNext};
+ghost use Rattle.sched_capture.specs.NextPacket.{IsNext, IsEnd, KeepsSource};
 
 use crate::arrivals::Arrivals;
 use outside_core::{ReadError, Shelf};
@@ -101,19 +101,15 @@ impl<'a, S: Shelf> CapturePackets<'a, S> {
             (given_by self.old)
             (contents_of self.old (S.left source.old)) (contents_of self.new (S.left source.new))
             link packet.new (captured_by self.new))) }
-        ensures ended { IfOk result (λ o. IfNone o (IsAt None
-            (contents_of self.old (S.left source.old)))) }
-        ensures over { IfOk result (λ o. IfNone o (contents_of self.new (S.left source.new) ≡
-            Some nothing_left)) }
+        ensures ended { IfOk result (λ o. IfNone o (IsEnd
+            (contents_of self.old (S.left source.old)) (contents_of self.new (S.left source.new)))) }
         ensures fault { IfErr result (StopsAt (contents_of self.old (S.left source.old))) }
 
         ensures given { IfOk result (λ o. given_by self.new ≡ given_by self.old +
             (if is_some o then 1 else 0)) }
         ensures ready { OnOk result (IsReady self.new (S.begun source.new)) }
         ensures policy { resolved_of self.new ≡ resolved_of self.old }
-        ensures kept { KeepsShelf S.lends S.content S.faults source.old source.new }
-        ensures cause { IsErrOf result ReadError.Source → Rose (S.faults source.old)
-            (S.faults source.new) }
+        ensures keeps { KeepsSource S.Shelf result source.old source.new }
     {
         match self {
             CapturePackets::Classic(arrivals) => arrivals.next_packet(source, packet),

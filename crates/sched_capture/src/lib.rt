@@ -13,7 +13,6 @@ mod fabric;
 mod forwarding;
 mod laws;
 mod load;
-mod packets;
 mod single_link_type;
 mod task;
 

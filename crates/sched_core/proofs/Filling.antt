@@ -11,7 +11,7 @@ add_none : (n : ℕ) → n + 0 ≡ n
 add_none n = omega arith
 
 -- ---- the numbers of leaves
-leaf-numbered : (tree : Tree Node) (a : Address) → LeadsToLeaf tree a → IsNumber tree a (number_at tree a)
+pub leaf-numbered : (tree : Tree Node) (a : Address) → LeadsToLeaf tree a → IsNumber tree a (number_at tree a)
 leaf-numbered tree a l = let there = leaf_at tree a l in number-undone tree a (leaf there.0) there.1
 
 same-leaf : (tree : Tree Node) (a b : Address) → LeadsToLeaf tree a → LeadsToLeaf tree b → number_at tree a ≡ number_at tree b → a ≡ b
@@ -55,13 +55,6 @@ filled-set policy counts s t a n l are here elsewhere b m = elim (cases_eq (numb
 module _ (policy : Policy) (accepted : IsAccepted policy) (p : Packet) (within : p.class < length policy.classes) where
   leads : LeadsToLeaf policy.tree (class_of policy p).leaf
   leads = (class_is_ready policy accepted p within).leaf_address
-
-  pub leaf-within : (k : ℕ) → k ≡ leaf_number policy p → k < nodes policy.tree
-  leaf-within k is = omega (arith, is, (leaf-numbered policy.tree (class_of policy p).leaf leads).within)
-
-  pub leaf-limits : (k : ℕ) (x : Limits) → k ≡ leaf_number policy p → HasAt policy.tree k (λ n. x ≡ n.limits) → x ≡ limits_at policy (class_of policy p).leaf
-  leaf-limits k x is h =
-      numbered-limits policy k x h ∙ ap (λ (a : Address). limits_at policy a) (ap (address_at policy.tree) is ∙ (leaf-numbered policy.tree (class_of policy p).leaf leads).address)
 
   -- another leaf isn't on the path
   apart : (b : Address) → LeadsToLeaf policy.tree b → b ≢ (class_of policy p).leaf → leads_over b (class_of policy p).leaf ≡ false

@@ -1,6 +1,5 @@
 -- The fields by which nodes tell flows apart.
-use Rattle.sched_core.proofs.Prelude.{arith, ◌≡◌, sym, ℕ, subst, Some, ◌<◌, Option, None, ◌+◌, option_map_or, IsSomeAnd, inl, inr, address_at, HasAt, Node, Policy, Packet, node_at, class_of, policy_of, Address}
-use Rattle.std.proofs.lemmas.Bool.{cases_order}
+use Rattle.sched_core.proofs.Prelude.{◌≡◌, sym, ℕ, subst, Some, Option, None, option_map_or, IsSomeAnd, address_at, HasAt, Node, Policy, Packet, node_at, class_of, policy_of, Address}
 use Rattle.rank_defs.specs.declared.environment.FlowKey.{FlowKey}
 use Rattle.rank_defs.specs.declared.flow_group.FlowGroup.{FlowGroup}
 use Rattle.rank_defs.specs.declared.flow_group.FlowGroup.TheVariants.{FiveTuple}
@@ -8,7 +7,6 @@ use Rattle.rank_defs.specs.FlowGroups.{grouped}
 use Rattle.policy_defs.specs.Policy.{group_at}
 use Rattle.sched_core.specs.declared.node_states.NodeStates.{NodeStates}
 use Rattle.sched_core.specs.Agreement.{HasRoomFor, HasFlowRoom}
-use Rattle.sched_core.specs.Groups.{UsesFiveFields}
 
 group-there : (o : Option Node) (g : FlowGroup) → IsSomeAnd o (λ n. g ≡ n.group) → g ≡ option_map_or (λ n. n.group) o FiveTuple
 group-there (Some n) g is = is
@@ -18,23 +16,9 @@ group-there None g is = absurd is
 pub numbered-group : (policy : Policy) (node : ℕ) (g : FlowGroup) → HasAt policy.tree node (λ n. g ≡ n.group) → g ≡ group_at policy (address_at policy.tree node)
 numbered-group policy node g is = group-there (node_at policy.tree (address_at policy.tree node)) g is
 
--- the first nodes tell flows apart by all five fields
-pub record UseFiveFields (policy : Policy) (n : ℕ) : Type 0 where
-  pub each : (node : ℕ) → node < n → UsesFiveFields policy node
-
-pub five-more : (policy : Policy) (n : ℕ) → UseFiveFields policy n → UsesFiveFields policy n → UseFiveFields policy (n + 1)
-five-more policy n h last = record { each = each }
-  where
-    each : (node : ℕ) → node < n + 1 → UsesFiveFields policy node
-    each node l = elim (cases_order node n) [
-      | inl e ↦ subst (UsesFiveFields policy) (sym e) last
-      | inr (inl less) ↦ h.each node less
-      | inr (inr later) ↦ absurd (omega (arith, l, later))
-    ]
-
 -- room for the grouped flow is room for the packet
-pub room-grouped : (s : NodeStates) (policy : Policy) (p : Packet) (a : Address) (key : FlowKey) → policy_of s ≡ policy → a ≡ (class_of policy p).leaf → key ≡ grouped (group_at policy a) p.flow → HasRoomFor s a key → HasFlowRoom s p
+pub room-grouped : (s : NodeStates) (policy : Policy) (p : Packet) (a : Address) (key : FlowKey) → policy_of s ≡ policy → a ≡ (class_of policy p).leaf → key ≡ grouped (group_at policy (class_of policy p).leaf) p.flow → HasRoomFor s a key → HasFlowRoom s p
 room-grouped s policy p a key same at is room =
     subst (λ (z : Policy). HasRoomFor s (class_of z p).leaf (grouped (group_at z (class_of z p).leaf) p.flow)) (sym same)
-    (subst (λ (b : Address). HasRoomFor s b (grouped (group_at policy b) p.flow)) at
+    (subst (λ (b : Address). HasRoomFor s b (grouped (group_at policy (class_of policy p).leaf) p.flow)) at
     (subst (λ (f : FlowKey). HasRoomFor s a f) is room))

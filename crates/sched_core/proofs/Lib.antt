@@ -3,7 +3,6 @@ pub mod SlotLaws
 pub mod ChunkLaws
 pub mod NumberLaws
 pub mod HeldNumbers
-pub mod LeafNumbers
 pub mod PoppedPackets
 pub mod TreeParts
 pub mod StateUpdates

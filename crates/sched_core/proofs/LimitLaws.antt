@@ -12,7 +12,7 @@ use Rattle.rank_defs.specs.States.{same_flow}
 use Rattle.packet_defs.specs.declared.packet.Packet.{Packet}
 use Rattle.policy_defs.specs.declared.limits.Limits.{Limits}
 use Rattle.policy_defs.specs.Accepted.{IsAccepted}
-use Rattle.policy_defs.specs.Policy.{Policy, limits_at, group_at, at_most, no_limits}
+use Rattle.policy_defs.specs.Policy.{Policy, Class, limits_at, group_at, at_most, no_limits}
 use Rattle.policy_defs.specs.Numbers.{number_at}
 use Rattle.policy_core.proofs.NumberedAddresses.{number-undone, IsNumber}
 use Rattle.sched_defs.specs.Events.{CanArrive}
@@ -22,6 +22,8 @@ use Rattle.sched_defs.specs.Sound.{IsSound}
 use Rattle.sched_defs.proofs.Queued.{class_is_ready}
 use Rattle.sched_defs.proofs.Runs.{none_is_over}
 use Rattle.sched_defs.proofs.Totals.{total-pushed, total-left_leaf, total-start, total-least, total-packets, total-bytes, way-last, leads_over-leaf}
+use Rattle.sched_core.specs.Waypoints.{IsClassPath}
+use Rattle.sched_core.specs.declared.path_node.ClassPath.{ClassPath}
 use Rattle.sched_core.specs.NodeTotals.{Amounts, nothing, raised, lowered}
 use Rattle.sched_core.specs.Totals.{Values, IsPath, AreInside, AreApart, HaveRoom, AreFew, IsTotal, AreTotals, AreKept, AreSized, MayTotals, HaveRoomTo, IsLeafLimit, HaveLeafLimits, with_one_more, with_one_fewer, amounts_in}
 use Rattle.sched_core.specs.declared.node_totals.NodeTotals.{NodeTotals}
@@ -29,6 +31,11 @@ use Rattle.sched_core.specs.declared.path_node.PathNode.{PathNode}
 use Rattle.sched_core.proofs.Prefixes.{same-number, prefix-there, prefix-over, over-prefix, over-short, prefix-length}
 
 -- ---- the numbers of a path's nodes
+-- the nodes of a class's path are those from the root to its leaf
+pub path-known : (policy : Policy) (c : Class) (k : ClassPath) (path : List PathNode) → IsClassPath policy c k → path ≡ k.nodes.items → IsPath policy.tree c.leaf path
+path-known policy c k path h is = subst (λ (l : List PathNode). IsPath policy.tree c.leaf l) (sym is)
+    (record { count = h.nodes.count; each = λ level w at. (h.nodes.each level w at).node })
+
 module _ (policy : Policy) (leaf : Address) (leads : LeadsToLeaf policy.tree leaf) where
   pub number-within : (level : ℕ) → level ≤ length leaf → number_at policy.tree (take level leaf) < nodes policy.tree
   number-within level h = let there = prefix-there policy.tree leaf level leads h in (number-undone policy.tree (take level leaf) there.0 there.1).within
@@ -61,6 +68,18 @@ module _ (policy : Policy) (leaf : Address) (leads : LeadsToLeaf policy.tree lea
         there [] k l = absurd (omega (arith, l))
         there (w ∷ ws) zero l = (w, refl)
         there (w ∷ ws) (suc k) l = there ws k (omega (arith, l))
+
+-- ---- the path of a packet's class, as it was prepared
+pub record IsOnPath (policy : Policy) (p : Packet) (path : List PathNode) : Type 0 where
+  pub leads : LeadsToLeaf policy.tree (class_of policy p).leaf
+  pub is : IsPath policy.tree (class_of policy p).leaf path
+  pub inside : (n : ℕ) → n ≡ nodes policy.tree → AreInside path n
+
+pub on-path : (policy : Policy) (p : Packet) (k : ClassPath) (path : List PathNode) → IsAccepted policy → p.class < length policy.classes → IsClassPath policy (class_of policy p) k → path ≡ k.nodes.items → IsOnPath policy p path
+on-path policy p k path accepted within h same =
+    let leads : LeadsToLeaf policy.tree (class_of policy p).leaf = (class_is_ready policy accepted p within).leaf_address in
+    let is : IsPath policy.tree (class_of policy p).leaf path = path-known policy (class_of policy p) k path h same in
+    record { leads = leads; is = is; inside = path-inside policy (class_of policy p).leaf leads path is }
 
 -- ---- the same amounts
 pub record SameAmounts (v w : Amounts) : Type 0 where

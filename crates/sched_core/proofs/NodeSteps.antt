@@ -1,5 +1,5 @@
 -- A step of one node on the path.
-use Rattle.sched_core.proofs.Prelude.{arith, ◌≡◌, ap, ◌∙◌, sym, ℕ, List, length, subst, Some, ◌<◌, [], refl, ◌∷◌, ◌≤◌, ◌++◌, ◌↔◌, append-nil, drop_all, take-append-drop, slice_get-get_or, slice_get, slice_index_or, slice_set, slice_index, address_at, told, AreMarksInRange, Node, IsForm, RunAs, HasRoom, state_of, children_of, NodeState, same-trans, after_pop-same, after_push-same, push_step-same, max_rank, Program, IsStateInRange, SameState, State, after_push, after_pop, push_rank, Env, Who, Child, Flow, Visit, States, after_pops, after_pushes, env_for, rank_at, with_state, Tree, Address, LeadsToLeaf, inner, leaf, root_of, Option, option_map_or, subtree, part_at, HaveValues, AreStations, HasRoomAt, IsStationOf, Keeps, marks_on, rank_told, IsWaypoint, tree_for, class_for, IsReady, ForValues, KeepsRoom, stop, ahead, part, place, who_on, HasRoomAtLeaf, ValuesBecome, PacketPath, PathNode}
+use Rattle.sched_core.proofs.Prelude.{arith, ◌≡◌, ap, ◌∙◌, sym, ℕ, List, length, subst, Some, ◌<◌, [], refl, ◌∷◌, ◌≤◌, ◌++◌, ◌↔◌, append-nil, drop_all, take-append-drop, slice_get-get_or, slice_get, slice_index_or, slice_set, slice_index, address_at, told, AreMarksInRange, Node, IsForm, RunAs, HasRoom, state_of, children_of, NodeState, same-trans, after_pop-same, after_push-same, push_step-same, max_rank, Program, IsStateInRange, SameState, State, after_push, after_pop, push_rank, Env, Who, Child, Flow, Visit, States, after_pops, after_pushes, env_for, rank_at, with_state, Tree, Address, LeadsToLeaf, inner, leaf, root_of, Option, option_map_or, subtree, part_at, HaveValues, AreStations, HasRoomAt, IsStationOf, Keeps, marks_on, rank_told, IsWaypoint, tree_for, class_for, IsReady, ForValues, KeepsRoom, stop, ahead, part, place, who_on, HasRoomAtLeaf, IsAtLevel, ValuesBecome, PacketPath, PathNode}
 use Rattle.rank_defs.specs.declared.environment.FlowKey.{FlowKey}
 use Rattle.rank_defs.specs.declared.flow_group.FlowGroup.{FlowGroup}
 use Rattle.rank_defs.specs.declared.flow_group.FlowGroup.TheVariants.{FiveTuple}
@@ -14,6 +14,10 @@ use Rattle.sched_core.proofs.StateUpdates.{stations-set, values-set, values-same
 pub marks-of_class : (t : Tree Node) (c : Class) → marks_on t [] c ≡ c.marks
 marks-of_class (leaf n) c = refl
 marks-of_class (inner n ts) c = refl
+
+-- the key of a flow whose group counts all five fields is the flow itself
+pub five-fields : {group : FlowGroup} (flow : FlowKey) → group ≡ FiveTuple → flow ≡ grouped group flow
+five-fields flow is = ap (λ (g : FlowGroup). grouped g flow) (sym is)
 
 -- the node at a level: its entry, and that there is a state at its number
 pub record IsHere (e : PacketPath) (level : ℕ) (s : PathNode) (states : List NodeState) : Type 0 where
@@ -195,3 +199,29 @@ module _ {e : PacketPath} {level : ℕ} {s : PathNode} {states : List NodeState}
 
     pub popped-here : (ranks : List ℕ) → SameState (state_of x') (after_pop p w n (slice_index ranks 0) (state_of x)) → ValuesBecome e states (slice_set states s.node x') (after_pops (stop e level ∷ []) ranks)
     popped-here ranks = set-here (λ q u m. after_pop q u m (slice_index ranks 0)) (after_pop-same p w n (slice_index ranks 0))
+
+  -- ---- what the node's push step leaves, and its pop step
+  pub push-made : {r : ℕ} (x' : NodeState)
+      → record { rank : r ≡ push_rank p w n (state_of x); rank_limit : r ≤ max_rank; after : SameState (state_of x') (after_push p w n (state_of x)); in_range : IsStateInRange p (state_of x'); room : (who : Who) → HasRoom x' who ↔ HasRoom x who; children : children_of x' ≡ children_of x }
+      → record { rank : ForValues e states (λ values. r ≡ rank_at values (stop e level)); values : ValuesBecome e states (slice_set states s.node x') (after_pushes (stop e level ∷ [])); kept : AreStations (tree_for e) (slice_set states s.node x'); room : KeepsRoom e states (slice_set states s.node x'); limit : r ≤ max_rank }
+  push-made x' left = record { rank = rank-here left.rank; values = pushed-here x' left.after; kept = stations-here x' left.in_range left.children left.room; room = still-room x' left.room; limit = left.rank_limit }
+
+  pub pop-made : (r : ℕ) (x' : NodeState)
+      → record { after : SameState (state_of x') (after_pop p w n r (state_of x)); in_range : IsStateInRange p (state_of x'); room : (who : Who) → HasRoom x' who ↔ HasRoom x who; children : children_of x' ≡ children_of x }
+      → record { values : ValuesBecome e states (slice_set states s.node x') (after_pops (stop e level ∷ []) (r ∷ [])); kept : AreStations (tree_for e) (slice_set states s.node x'); room : KeepsRoom e states (slice_set states s.node x') }
+  pop-made r x' left = record { values = popped-here x' (r ∷ []) left.after; kept = stations-here x' left.in_range left.children left.room; room = still-room x' left.room }
+
+-- ---- the node at a level, and the step that the code makes there
+module _ {e : PacketPath} {digits : List ℕ} {level : ℕ} {states : List NodeState} (there : IsAtLevel e digits level states) (d : PathNode) where
+  abbrev s : PathNode
+  s = slice_index_or e.waypoints.now level d
+
+  pub node-at : IsHere e level s states
+  node-at = here-at there.ready there.digits_are d there.low there.kept
+
+  module _ (x : NodeState) {p : Program} {n : Env} (program : p ≡ s.checked.now) (env : n ≡ env_for e.packet.now e.moment (told s.marks)) where
+    pub child-step : level < length digits → IsStep e level s states (slice_index_or states s.node x) p (Child (slice_index_or digits level 0)) n
+    child-step low = step-here node-at x program (child-at there.ready there.digits_are low) env
+
+    pub flow-step : {key : FlowKey} → length digits ≤ level → key ≡ grouped s.group e.packet.now.flow → IsStep e level s states (slice_index_or states s.node x) p (Flow key) n
+    flow-step high is = step-here node-at x program (flow-at there.ready there.digits_are node-at.waypoint high is) env

@@ -49,9 +49,9 @@ pub use Rattle.sched_core.specs.Kept.{part_at, HaveValues, AreStations, HasRoomA
 pub use Rattle.sched_core.specs.PolicyState.{policy_in, AreFilled, PopsNext}
 pub use Rattle.sched_core.specs.Slots.{packet_in, packet_among, are_ordered, filled_among, place_behind, stands_at}
 pub use Rattle.sched_core.specs.Waypoints.{marks_on, AreWaypoints, rank_told, IsWaypoint, AreWays, mark_told}
-pub use Rattle.sched_core.specs.Ways.{tree_for, class_for, IsReady, ForValues, KeepsRoom, stop, AreLowRanks, ahead, part, place, way, who_on, HasRoomAtLeaf, ValuesBecome}
+pub use Rattle.sched_core.specs.Ways.{tree_for, class_for, IsReady, ForValues, KeepsRoom, stop, AreLowRanks, ahead, part, place, way, who_on, HasRoomAtLeaf, IsAtLevel, ValuesBecome}
 pub use Rattle.sched_core.specs.Windows.{packet_at, end_of}
 pub use Rattle.sched_core.specs.declared.chunk.Chunk.{Chunk}
-pub use Rattle.sched_core.specs.declared.packet_path.PacketPath.{PacketPath}
+pub use Rattle.sched_core.specs.declared.node_states.PacketPath.{PacketPath}
 pub use Rattle.sched_core.specs.declared.path_node.PathNode.{PathNode}
-pub use Rattle.sched_core.specs.declared.slot.Slot.{Slot}
+pub use Rattle.sched_core.specs.declared.chunk.Slot.{Slot}

@@ -1,8 +1,10 @@
 -- The nodes on the paths of classes, taken from a policy one after another.
-use Rattle.sched_core.proofs.Prelude.{arith, ◌≡◌, ap, ◌∙◌, sym, ℕ, List, length, subst, Some, ◌<◌, [], refl, ◌∷◌, None, ◌+◌, ◌≤◌, get_or, suc, zero, ◌++◌, take, drop, map, length-append, drop_all, slice_get-get_or, slice_get-map, AllByRecursion, slice_get, slice_index_or, Vec, option_map, Global, address_at, HasAt, class_in, told, IsAccepted, IsClassReady, number_at, Node, Policy, node_at, IsForm, Tree, Address, LeadsToLeaf, nodes, inner, leaf, root_of, IsAddressOf, part_at, marks_on, AreWaypoints, rank_told, IsWaypoint, PathNode}
+use Rattle.sched_core.proofs.Prelude.{arith, ◌≡◌, ap, ◌∙◌, sym, ℕ, List, length, subst, Some, ◌<◌, [], refl, ◌∷◌, None, ◌+◌, ◌≤◌, get_or, suc, zero, ◌++◌, take, drop, map, length-append, drop_all, slice_get-get_or, slice_get-map, AllByRecursion, slice_get, slice_index_or, option_map, address_at, HasAt, class_in, told, IsAccepted, IsClassReady, number_at, Node, Policy, node_at, IsForm, Tree, Address, LeadsToLeaf, nodes, inner, leaf, root_of, IsAddressOf, part_at, marks_on, AreWaypoints, rank_told, IsWaypoint, PathNode}
 use Rattle.policy_defs.specs.Policy.{Class as Aimed, Marks as Told}
 use Rattle.policy_core.specs.declared.parts.Class.{Class}
 use Rattle.policy_core.specs.declared.parts.Marks.{Marks}
+use Rattle.sched_core.specs.declared.path_node.ClassPath.{ClassPath}
+use Rattle.sched_core.specs.Waypoints.{IsClassPath}
 use Rattle.sched_core.proofs.TreeParts.{some-is, some-and, node-of_part}
 use Rattle.sched_core.proofs.FirstStates.{last-cases}
 use Rattle.sched_core.proofs.NodeSteps.{marks-of_class}
@@ -95,13 +97,13 @@ module _ {tree : Tree Node} {c : Aimed} {level : ℕ} {node : ℕ} (r : IsReache
         ∙ ap (λ (ds : Address). marks_on (part_at tree (take level c.leaf)) ds c) (sym (ahead-next tree c.leaf r.leads level further))
 
 -- ---- the paths of the first classes
-pub record HaveWays (policy : Policy) (ways : List (Vec PathNode Global)) (n : ℕ) : Type 0 where
-  pub count : length ways ≡ n
-  pub each : (i : ℕ) (c : Aimed) (w : Vec PathNode Global) → slice_get policy.classes i ≡ Some c → slice_get ways i ≡ Some w → AreWaypoints policy.tree c w.items
+pub record HavePaths (policy : Policy) (paths : List ClassPath) (n : ℕ) : Type 0 where
+  pub count : length paths ≡ n
+  pub each : (i : ℕ) (c : Aimed) (w : ClassPath) → slice_get policy.classes i ≡ Some c → slice_get paths i ≡ Some w → IsClassPath policy c w
 
-pub ways-begun : (policy : Policy) (ways : List (Vec PathNode Global)) → ways ≡ [] → HaveWays policy ways 0
-ways-begun policy [] e = record { count = refl; each = λ i c w known at. (let f : None ≡ Some w = at in cc) }
-ways-begun policy (w ∷ ways) e = cc
+pub paths-begun : (policy : Policy) (paths : List ClassPath) → paths ≡ [] → HavePaths policy paths 0
+paths-begun policy [] e = record { count = refl; each = λ i c w known at. (let f : None ≡ Some w = at in cc) }
+paths-begun policy (w ∷ paths) e = cc
 
 mapped-at : {X Y : Type 0} (f : X → Y) (P : Y → Type 0) (xs : List X) (i : ℕ) (d : X) → AllByRecursion P (map f xs) → i < length xs → P (f (get_or xs i d))
 mapped-at f P [] i d h l = absurd (omega arith)
@@ -116,11 +118,11 @@ module _ (policy : Policy) (classes : List Class) (same : map (class_in policy.t
   class-known : (i : ℕ) (d : Class) → i < length classes → slice_get policy.classes i ≡ Some (class_in policy.tree (get_or classes i d))
   class-known i d l = ap (λ (cs : List Aimed). slice_get cs i) (sym same) ∙ slice_get-map (class_in policy.tree) classes i ∙ ap (option_map (class_in policy.tree)) (slice_get-get_or classes i d l)
 
-  pub ways-more : (ways more : List (Vec PathNode Global)) (n : ℕ) (d : Class) (w : Vec PathNode Global) → n < length classes → HaveWays policy ways n → more ≡ ways ++ w ∷ [] → AreWaypoints policy.tree (class_in policy.tree (get_or classes n d)) w.items → HaveWays policy more (n + 1)
-  ways-more ways more n d w l h is waypoints = record { count = ap length is ∙ length-append ways (w ∷ []) ∙ ap (λ m. m + 1) h.count; each = each }
+  pub paths-more : (paths more : List ClassPath) (n : ℕ) (d : Class) (w : ClassPath) → n < length classes → HavePaths policy paths n → more ≡ paths ++ w ∷ [] → IsClassPath policy (class_in policy.tree (get_or classes n d)) w → HavePaths policy more (n + 1)
+  paths-more paths more n d w l h is path = record { count = ap length is ∙ length-append paths (w ∷ []) ∙ ap (λ m. m + 1) h.count; each = each }
     where
-      each : (i : ℕ) (c : Aimed) (x : Vec PathNode Global) → slice_get policy.classes i ≡ Some c → slice_get more i ≡ Some x → AreWaypoints policy.tree c x.items
-      each i c x known at = last-cases ways i w x (ap (λ (ws : List (Vec PathNode Global)). slice_get ws i) (sym is) ∙ at) (h.each i c x known)
+      each : (i : ℕ) (c : Aimed) (x : ClassPath) → slice_get policy.classes i ≡ Some c → slice_get more i ≡ Some x → IsClassPath policy c x
+      each i c x known at = last-cases paths i w x (ap (λ (ks : List ClassPath). slice_get ks i) (sym is) ∙ at) (h.each i c x known)
           (λ last same.
           let is-class : class_in policy.tree (get_or classes n d) ≡ c = some-is (sym (class-known n d l) ∙ ap (slice_get policy.classes) (sym (last ∙ h.count)) ∙ known) in
-          subst (λ (k : Aimed). AreWaypoints policy.tree k x.items) is-class (subst (λ (z : Vec PathNode Global). AreWaypoints policy.tree (class_in policy.tree (get_or classes n d)) z.items) same waypoints))
+          subst (λ (k : Aimed). IsClassPath policy k x) is-class (subst (λ (z : ClassPath). IsClassPath policy (class_in policy.tree (get_or classes n d)) z) same path))

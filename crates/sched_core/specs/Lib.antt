@@ -14,6 +14,5 @@ pub mod Direct
 pub mod Kept
 pub mod Waypoints
 pub mod Ways
-pub mod Groups
 pub mod Agreement
 pub mod Samples

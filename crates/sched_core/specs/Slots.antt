@@ -1,7 +1,7 @@
 -- The packets in slots.
 use Rattle.std.specs.Prelude.{ℕ, ◌+◌, ◌<◌, ◌%◌, ◌^◌, ◌==◌, nat_le, Bool, true, ◌&&◌, if◌then◌else◌, Option, None, Some, List, [], ◌∷◌}
 use Rattle.packet_defs.specs.declared.packet.Packet.{Packet}
-use Rattle.sched_core.specs.declared.slot.Slot.{Slot}
+use Rattle.sched_core.specs.declared.chunk.Slot.{Slot}
 
 -- neither address of its flow has more than 32 bits
 abbrev pub IsBrief : Packet → Type 0

@@ -1,7 +1,6 @@
 -- The nodes on the paths of a policy's classes, as the code has them.
-use Rattle.std.specs.Prelude.{◌≡◌, ◌+◌, ℕ, List, [], ◌∷◌, Option, Some, None, length, slice_get, take, drop, Vec}
-use Rattle.std.specs.Coded.{Coded, Coded-set, coded_ℕ, coded_option}
-use Rattle.std.specs.declared.alloc.Global.{Global}
+use Rattle.std.specs.Prelude.{◌≡◌, ◌+◌, ℕ, List, [], ◌∷◌, Option, Some, None, length, slice_get, take, drop}
+use Rattle.std.specs.Coded.{Coded, Coded-set, coded_ℕ, coded_option, coded_list}
 use Rattle.tree_defs.specs.Tree.{Tree, leaf, inner, root_of}
 use Rattle.rank_defs.specs.declared.expression.Var.TheVariants.{Prio, Weight, Slack}
 use Rattle.rank_defs.specs.declared.transaction.Aim.{Aim}
@@ -12,12 +11,13 @@ use Rattle.rank_defs.specs.contracts.flow_group.FlowGroup as group_row
 use Rattle.rank_defs.specs.Programs.{Assignment}
 use Rattle.rank_core.specs.Forms.{IsForm, IsForm-prop}
 use Rattle.range_core.specs.Codes.{program_code}
-use Rattle.policy_defs.specs.Policy.{Policy, Node, Class, Marks}
+use Rattle.policy_defs.specs.Policy.{Policy, Node, Class, Marks, limits_at, group_at}
 use Rattle.policy_defs.specs.Numbers.{number_at}
 use Rattle.policy_core.specs.Codes.{marks_code}
 use Rattle.policy_core.specs.Parts.{told}
 use Rattle.sched_defs.specs.Visits.{child_marks}
 use Rattle.sched_core.specs.declared.path_node.PathNode.{PathNode}
+use Rattle.sched_core.specs.declared.path_node.ClassPath.{ClassPath}
 use Rattle.sched_core.specs.Kept.{part_at}
 
 -- the marks that a step gets, if the path of a class follows these digits from the root of this
@@ -59,10 +59,18 @@ pub record AreWaypoints (tree : Tree Node) (c : Class) (waypoints : List PathNod
   pub count : length waypoints ≡ length c.leaf + 1
   pub each : (level : ℕ) (s : PathNode) → slice_get waypoints level ≡ Some s → IsWaypoint tree c level s
 
--- the entries of each class
-pub record AreWays (policy : Policy) (ways : List (Vec PathNode Global)) : Type 0 where
-  pub count : length ways ≡ length policy.classes
-  pub each : (i : ℕ) (c : Class) (w : Vec PathNode Global) → slice_get policy.classes i ≡ Some c → slice_get ways i ≡ Some w → AreWaypoints policy.tree c w.items
+-- what the events of a class need
+pub record IsClassPath (policy : Policy) (c : Class) (k : ClassPath) : Type 0 where
+  pub leaf : k.leaf ≡ number_at policy.tree c.leaf
+  pub limit : k.limit ≡ (limits_at policy c.leaf).packets
+  pub group : k.group ≡ group_at policy c.leaf
+  pub digits : k.digits.now ≡ c.leaf
+  pub nodes : AreWaypoints policy.tree c k.nodes.items
+
+-- the same for each class
+pub record AreWays (policy : Policy) (paths : List ClassPath) : Type 0 where
+  pub count : length paths ≡ length policy.classes
+  pub each : (i : ℕ) (c : Class) (k : ClassPath) → slice_get policy.classes i ≡ Some c → slice_get paths i ≡ Some k → IsClassPath policy c k
 
 IsWaypoint-prop : (tree : Tree Node) (c : Class) (level : ℕ) (s : PathNode) → IsProp (IsWaypoint tree c level s)
 IsWaypoint-prop tree c level s a b i = record {
@@ -81,9 +89,18 @@ AreWaypoints-prop tree c waypoints a b i = record {
   each = λ level s at. IsWaypoint-prop tree c level s (a.each level s at) (b.each level s at) i;
 }
 
+IsClassPath-prop : (policy : Policy) (c : Class) (k : ClassPath) → IsProp (IsClassPath policy c k)
+IsClassPath-prop policy c k a b i = record {
+  leaf = Coded-set coded_ℕ _ _ a.leaf b.leaf i;
+  limit = Coded-set (coded_option coded_ℕ) _ _ a.limit b.limit i;
+  group = Coded-set group_code _ _ a.group b.group i;
+  digits = Coded-set (coded_list coded_ℕ) _ _ a.digits b.digits i;
+  nodes = AreWaypoints-prop policy.tree c k.nodes.items a.nodes b.nodes i;
+}
+
 -- all proofs of it are equal
-pub AreWays-prop : (policy : Policy) (ways : List (Vec PathNode Global)) → IsProp (AreWays policy ways)
-AreWays-prop policy ways a b i = record {
+pub AreWays-prop : (policy : Policy) (paths : List ClassPath) → IsProp (AreWays policy paths)
+AreWays-prop policy paths a b i = record {
   count = Coded-set coded_ℕ _ _ a.count b.count i;
-  each = λ n c w known kept. AreWaypoints-prop policy.tree c w.items (a.each n c w known kept) (b.each n c w known kept) i;
+  each = λ n c k known kept. IsClassPath-prop policy c k (a.each n c k known kept) (b.each n c k known kept) i;
 }

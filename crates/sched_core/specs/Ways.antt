@@ -1,5 +1,5 @@
 -- The path of a packet from the root down to the leaf of its class. The root's level is 0.
-use Rattle.std.specs.Prelude.{◌≤◌, ℕ, List, [], ◌∷◌, take, drop}
+use Rattle.std.specs.Prelude.{◌≡◌, ◌≤◌, ℕ, List, [], ◌∷◌, length, take, drop}
 use Rattle.std.specs.List.{AllByRecursion}
 use Rattle.tree_defs.specs.Tree.{Tree, Address, LeadsToLeaf, root_of}
 use Rattle.rank_defs.specs.declared.environment.Who.{Who}
@@ -12,17 +12,17 @@ use Rattle.rank_core.specs.declared.node.NodeState.{NodeState}
 use Rattle.packet_defs.specs.declared.packet.Packet.{Packet}
 use Rattle.policy_defs.specs.Policy.{Node, Class, group_at}
 use Rattle.policy_defs.specs.Accepted.{IsAccepted, AreMarksInRange}
-use Rattle.policy_core.specs.Parts.{class_in}
+use Rattle.sched_defs.specs.SourceState.{class_of}
 use Rattle.sched_defs.specs.Visits.{States, Visit, visit, env_for, visits_from}
-use Rattle.sched_core.specs.declared.packet_path.PacketPath.{PacketPath}
-use Rattle.sched_core.specs.Kept.{part_at, HasRoomAt, HaveValues}
+use Rattle.sched_core.specs.declared.node_states.PacketPath.{PacketPath}
+use Rattle.sched_core.specs.Kept.{part_at, HasRoomAt, HaveValues, AreStations}
 use Rattle.sched_core.specs.Waypoints.{marks_on, AreWaypoints}
 
 abbrev pub tree_for : PacketPath → Tree Node
 tree_for e = e.policy.now.policy.tree
 
 abbrev pub class_for : PacketPath → Class
-class_for e = class_in (tree_for e) e.class.now
+class_for e = class_of e.policy.now.policy e.packet.now
 
 -- the address of the node at a level of the path
 abbrev pub place : PacketPath → ℕ → Address
@@ -65,6 +65,15 @@ way e level = visits_from (part e level) (place e level) (ahead e level) (class_
 abbrev pub HasRoomAtLeaf : PacketPath → List NodeState → Type 0
 HasRoomAtLeaf e states =
     HasRoomAt (tree_for e) states (class_for e).leaf (Flow (grouped (group_at e.policy.now.policy (class_for e).leaf) e.packet.now.flow))
+
+-- a step at a level: the packet is ready for it, the digits are those of the class, the level is on
+-- the path, and the nodes have their states, with room at the leaf
+pub record IsAtLevel (e : PacketPath) (digits : List ℕ) (level : ℕ) (states : List NodeState) : Type 0 where
+  pub ready : IsReady e
+  pub digits_are : digits ≡ (class_for e).leaf
+  pub low : level ≤ length digits
+  pub kept : AreStations (tree_for e) states
+  pub room : HasRoomAtLeaf e states
 
 -- each is at most the greatest rank
 abbrev pub AreLowRanks : List ℕ → Type 0

@@ -1,19 +1,88 @@
 //! Slots for packets whose numbers are near each other.
-ghost use Rattle.std.specs.Prelude.{◌≡◌, ◌%◌, ◌≤◌, ◌<◌, ◌&&◌, ◌==◌, ℕ, None, Some, if◌then◌else◌, true, IsTrue, IfSome, IfNone, IfOk, OnOk, OnErr};
+ghost use Rattle.std.specs.Prelude.{◌≡◌, ◌↔◌, ◌%◌, ◌≤◌, ◌<◌, ◌&&◌, ◌==◌, ℕ, None, Some, if◌then◌else◌, true, IsSome, IfSome, IfNone, IfOk, OnOk, OnErr};
 ghost use Rattle.std.specs.List.{HoldsAt};
 ghost use Rattle.std.specs.Vec.{vec_len, vec_capacity};
-ghost use Rattle.sched_core.specs.Slots.{packet_in, stands_at, filled_among, are_ordered, place_behind};
+ghost use Rattle.sched_core.specs.Slots.{packet_in, IsBrief, stands_at, filled_among, are_ordered, place_behind};
 
-use crate::slot::{Slot, WIDTH};
 use packet_defs::{BLANK, Packet};
 use std::alloc::{AllocError, Global};
+
+/// How many numbers share a chunk. A number's position (`place`) in its chunk is its remainder by
+/// this width.
+pub(crate) const WIDTH: u64 = 64;
+
+/// A slot for a packet, with the position of its number. The chunk determines the rest of the
+/// number. The small fields come first, so that a slot takes 32 bytes.
+#[derive(Clone, Copy)]
+pub struct Slot {
+    pub(crate) filled: bool,
+    pub(crate) place: u8,
+    version: u8,
+    proto: u8,
+    dport: u16,
+    sport: u16,
+    source: u32,
+    target: u32,
+    len: u32,
+    class: u32,
+    moment: u64,
+}
+
+const _: () = prove!(size_of::<Slot>() == 32);
+
+impl Slot {
+    /// Returns a slot with a packet whose addresses have at most 32 bits.
+    #[inline(always)]
+    pub(crate) fn of(packet: &Packet) -> Option<Slot>
+        ensures packet { IfSome result (λ slot. packet_in packet.now.number slot ≡ packet.now) }
+        ensures place { IfSome result (λ slot. slot.place ≡ packet.now.number % 64) }
+        ensures filled { IfSome result (λ slot. slot.filled ≡ true) }
+        ensures brief { IsSome result ↔ IsBrief packet.now }
+    {
+        let flow = packet.flow;
+        let (Ok(source), Ok(target)) = (u32::try_from(flow.source), u32::try_from(flow.target))
+        else {
+            return None;
+        };
+        Some(Slot {
+            filled: true,
+            place: (packet.number % WIDTH) as u8,
+            version: flow.version,
+            proto: flow.proto,
+            sport: flow.sport,
+            dport: flow.dport,
+            source,
+            target,
+            class: packet.class,
+            len: packet.len,
+            moment: packet.moment,
+        })
+    }
+
+    /// Writes the packet of a slot, with this number, through `packet`.
+    #[inline(always)]
+    pub(crate) fn put_packet(&self, number: u64, packet: &mut Packet)
+        ensures { packet.new ≡ packet_in number self.now }
+    {
+        packet.number = number;
+        packet.class = self.class;
+        packet.len = self.len;
+        packet.moment = self.moment;
+        packet.flow.version = self.version;
+        packet.flow.source = u128::from(self.source);
+        packet.flow.target = u128::from(self.target);
+        packet.flow.proto = self.proto;
+        packet.flow.sport = self.sport;
+        packet.flow.dport = self.dport;
+    }
+}
 
 /// Slots for the numbers with the same quotient by the width, in number order, and how many slots
 /// are filled.
 #[derive(Drop)]
 pub struct Chunk {
     slots: Vec<Slot>,
-    filled: u64,
+    pub(crate) filled: u64,
     ghost ordered: { are_ordered 0 slots.items ≡ true },
     ghost counted: { filled ≡ filled_among slots.items },
 }
@@ -28,37 +97,6 @@ impl Chunk {
             slots: Vec::new(alloc),
             filled: 0,
         }
-    }
-
-    /// Returns whether no packet is here.
-    pub(crate) fn is_empty(&self) -> bool
-        ensures { IsTrue result → (n : ℕ) → packet_of self.now n ≡ None }
-    {
-        self.filled == 0
-    }
-
-    /// Returns whether a position is after those of all slots.
-    #[inline(always)]
-    fn is_behind(&self, place: u8) -> bool
-        ensures { IsTrue result → place_behind 0 self.now.slots.items ≤ place }
-    {
-        match self.slots.last() {
-            None => true,
-            Some(last) => last.place < place,
-        }
-    }
-
-    /// Makes room for one more slot.
-    #[inline(always)]
-    fn make_room(&mut self) -> Result<(), AllocError>
-        ensures room { OnOk result (vec_len self.new.slots < vec_capacity self.new.slots) }
-        ensures slots { self.new.slots.items ≡ self.old.slots.items }
-        ensures filled { self.new.filled ≡ self.old.filled }
-    {
-        if self.slots.len() < self.slots.capacity() {
-            return Ok(());
-        }
-        self.grow()
     }
 
     /// Reserves room for more slots. If the chunk has none, reserves room for all its numbers.
@@ -82,10 +120,14 @@ impl Chunk {
             ≡ (if stands && (n % 64 == slot.place) then Some (packet_in n slot) else packet_of self.old n)) }
         ensures err { OnErr result ((n : ℕ) → packet_of self.new n ≡ packet_of self.old n) }
     {
-        if !self.is_behind(slot.place) {
-            return Ok(false);
+        if let Some(last) = self.slots.last() {
+            if slot.place <= last.place {
+                return Ok(false);
+            }
         }
-        self.make_room()?;
+        if self.slots.len() == self.slots.capacity() {
+            self.grow()?;
+        }
         self.slots.push_reserved(slot);
         self.filled += 1;
         Ok(true)
@@ -104,7 +146,8 @@ impl Chunk {
         let mut i = self.slots.len().min(place as usize + 1);
         while i > 0 {
             i -= 1;
-            if self.slots[i].is_at(place) {
+            let slot = &self.slots[i];
+            if slot.place == place && slot.filled {
                 return Some(i);
             }
         }

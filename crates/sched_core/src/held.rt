@@ -46,10 +46,13 @@ impl Held {
             with_packet (held_at self.old) packet.now n) }
         ensures err { OnErr result ((n : ℕ) → held_at self.new n ≡ held_at self.old n) }
     {
-        if packet.number < self.window.end() || packet.number > LAST {
+        if packet.number < self.window.end || packet.number > LAST {
             return self.put_stray(packet);
         }
-        self.reach(packet.number)?;
+        if self.window.is_sparse(packet.number) {
+            self.move_outliers(packet.number)?;
+        }
+        self.window.stretch(packet.number)?;
         if self.window.push(packet)? {
             return Ok(());
         }
@@ -96,33 +99,16 @@ impl Held {
         Ok(())
     }
 
-    /// Makes a number the last one of the window. Afterwards few numbers in the window have no
-    /// packet.
-    #[inline(always)]
-    fn reach(&mut self, number: u64) -> Result<(), AllocError>
-        requires behind { end_of self.old.window ≤ number }
-        requires low { number < 2 ^ 63 }
-        ensures end { OnOk result (end_of self.new.window ≡ number + 1) }
-        ensures held { (n : ℕ) → held_at self.new n ≡ held_at self.old n }
-    {
-        if self.window.is_sparse(number) {
-            return self.move_outliers(number);
-        }
-        self.window.stretch(number)
-    }
-
-    /// As `reach`, after the first packets are moved to the strays.
+    /// Moves the first packets to the strays. Afterwards few numbers up to this one have no packet.
     #[inline(never)]
     fn move_outliers(&mut self, number: u64) -> Result<(), AllocError>
-        requires behind { end_of self.old.window ≤ number }
-        requires low { number < 2 ^ 63 }
-        ensures end { OnOk result (end_of self.new.window ≡ number + 1) }
         ensures held { (n : ℕ) → held_at self.new n ≡ held_at self.old n }
+        ensures end { end_of self.new.window ≡ end_of self.old.window }
     {
         while let Some(packet) = self.window.outlier(number) {
             self.put_stray(&packet)?;
         }
-        self.window.stretch(number)
+        Ok(())
     }
 }
 

@@ -6,18 +6,13 @@
 mod chunk;
 mod direct;
 mod first;
-mod groups;
 mod held;
-mod limits;
 mod node_states;
 mod node_totals;
-mod packet_path;
 mod path_node;
 mod policy_state;
 mod scheduler;
-mod slot;
 mod totals;
-mod walk;
 mod window;
 
 pub use direct::Direct;

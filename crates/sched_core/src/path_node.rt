@@ -5,7 +5,7 @@ ghost use Rattle.rank_defs.specs.Programs.{program_of};
 ghost use Rattle.rank_core.specs.Forms.{IsForm};
 ghost use Rattle.policy_core.specs.Numbering.{address_at, HasAt};
 ghost use Rattle.policy_core.specs.Parts.{class_in, told};
-ghost use Rattle.sched_core.specs.Waypoints.{rank_told, AreWaypoints, AreWays};
+ghost use Rattle.sched_core.specs.Waypoints.{rank_told, AreWaypoints, IsClassPath, AreWays};
 
 use policy_core::{Class, Marks, Policy};
 use range_core::Checked;
@@ -25,6 +25,17 @@ pub struct PathNode<'a> {
     pub told: Option<u64>,
     pub push: Form,
     pub pop: Form,
+}
+
+/// What each event of a class needs: the number of its leaf, the limit on packets there, the fields
+/// by which the leaf tells flows apart, its address, and the nodes on the path from the root.
+#[derive(Drop)]
+pub struct ClassPath<'a> {
+    pub leaf: u32,
+    pub limit: Option<u32>,
+    pub group: FlowGroup,
+    pub digits: &'a [u32],
+    pub nodes: Vec<PathNode<'a>>,
 }
 
 /// Returns the rank of a push step, if marks alone determine it and the step does nothing else. It
@@ -92,17 +103,35 @@ fn waypoints_of<'a>(
     Ok(waypoints)
 }
 
-/// Returns the nodes on the paths of all classes, by class number. The error means out of memory.
-pub fn all_waypoints<'a>(
+/// Returns what the events of a class need. The error means out of memory.
+fn class_path<'a>(
     alloc: Global,
     policy: &'a Policy,
-) -> Result<Vec<Vec<PathNode<'a>>>, AllocError>
-    ensures { IfOk result (λ ways. AreWays policy.now.policy ways.items) }
+    class: &Class,
+) -> Result<ClassPath<'a>, AllocError>
+    requires there { class.now.leaf < nodes policy.now.policy.tree }
+    requires leads { LeadsToLeaf policy.now.policy.tree (address_at policy.now.policy.tree
+        class.now.leaf) }
+    ensures { IfOk result (IsClassPath policy.now.policy
+        (class_in policy.now.policy.tree class.now)) }
+{
+    Ok(ClassPath {
+        leaf: class.leaf,
+        limit: policy.limits(class.leaf).packets,
+        group: policy.group(class.leaf),
+        digits: policy.address(class.leaf),
+        nodes: waypoints_of(alloc, policy, class)?,
+    })
+}
+
+/// Returns what the events of each class need, by class number. The error means out of memory.
+pub fn class_paths<'a>(alloc: Global, policy: &'a Policy) -> Result<Vec<ClassPath<'a>>, AllocError>
+    ensures { IfOk result (λ paths. AreWays policy.now.policy paths.items) }
 {
     let classes = policy.classes();
-    let mut ways = Vec::with_capacity(alloc, classes.len())?;
+    let mut paths = Vec::with_capacity(alloc, classes.len())?;
     for class in classes {
-        ways.push(waypoints_of(alloc, policy, class)?)?;
+        paths.push(class_path(alloc, policy, class)?)?;
     }
-    Ok(ways)
+    Ok(paths)
 }

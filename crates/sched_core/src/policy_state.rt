@@ -5,9 +5,7 @@ ghost use Rattle.tree_defs.specs.Tree.{depth};
 ghost use Rattle.tree_defs.specs.SourceTree.{size};
 ghost use Rattle.packet_defs.specs.declared.packet.Packet.{Packet as Known};
 ghost use Rattle.policy_defs.specs.Accepted.{IsAccepted};
-ghost use Rattle.policy_defs.specs.Policy.{limits_at};
-ghost use Rattle.sched_defs.specs.SourceState.{SourceState, start, class_of, arrival_ranks, is_full, dropped, pushed, departed, total, one};
-ghost use Rattle.sched_defs.specs.Laws.{is_reached};
+ghost use Rattle.sched_defs.specs.SourceState.{SourceState, start, class_of, arrival_ranks, is_full, dropped, pushed, departed};
 ghost use Rattle.sched_defs.specs.Sound.{IsKnown};
 ghost use Rattle.sched_defs.specs.Events.{CanArrive};
 ghost use Rattle.sched_core.specs.Agreement.{HasFlowRoom};
@@ -16,9 +14,9 @@ ghost use Rattle.sched_core.specs.Departures.{next_departed};
 ghost use Rattle.sched_core.specs.Held.{held_at};
 
 use crate::held::Held;
-use crate::limits::{add_to_totals, passes_limits, reserve_totals, take_from_totals, totals_of};
 use crate::node_states::NodeStates;
 use crate::node_totals::NodeTotals;
+use crate::totals::{add_to_totals, passes_limits, reserve_totals, take_from_totals, totals_of};
 use packet_defs::{BLANK, Departed, Packet};
 use policy_core::Policy;
 use std::alloc::{AllocError, Global};
@@ -64,39 +62,13 @@ impl<'a> PolicyState<'a> {
         })
     }
 
-    /// Returns the number of the leaf of a packet's class.
-    #[inline(always)]
-    fn leaf(&self, packet: &Packet) -> u32
-        requires known { IsKnown (policy_in self.now) packet.now }
-        ensures number { result ≡ leaf_number (policy_in self.now) packet.now }
-    {
-        self.stations.policy().classes()[packet.class as usize].leaf
-    }
-
     /// Returns the address of the leaf of a packet's class.
     #[inline(always)]
     pub fn address(&self, packet: &Packet) -> &[u32]
         requires known { IsKnown (policy_in self.now) packet.now }
         ensures address { result.now ≡ (class_of (policy_in self.now) packet.now).leaf }
     {
-        let policy = self.stations.policy();
-        policy.address(policy.classes()[packet.class as usize].leaf)
-    }
-
-    /// Returns whether the leaf of a packet's class has a limit on packets that is reached.
-    #[inline(always)]
-    fn is_leaf_full(&self, packet: &Packet) -> bool
-        requires accepted { IsAccepted (policy_in self.now) }
-        requires stands { IsOfOne self.now (λ _. IsKnown (policy_in self.now) packet.now) }
-        ensures full { IsOfEach self.now (λ s. result ≡ is_reached (limits_at
-            (policy_in self.now) (class_of (policy_in self.now) packet.now).leaf).packets
-            (total one s (class_of (policy_in self.now) packet.now).leaf)) }
-    {
-        let leaf = self.leaf(packet);
-        match self.stations.policy().limits(leaf).packets {
-            None => false,
-            Some(limit) => u64::from(limit) == self.filled[leaf as usize],
-        }
+        self.stations.path(packet).digits
     }
 
     /// Returns whether a packet would pass a limit on the path to the leaf of its class.
@@ -107,7 +79,13 @@ impl<'a> PolicyState<'a> {
         ensures full { IsOfEach self.now (λ s. result ≡ is_full (policy_in self.now) packet.now s) }
     {
         match &self.totals {
-            None => self.is_leaf_full(packet),
+            None => {
+                let path = self.stations.path(packet);
+                match path.limit {
+                    None => false,
+                    Some(limit) => u64::from(limit) == self.filled[path.leaf as usize],
+                }
+            }
             Some(totals) => passes_limits(totals.as_slice(), &self.stations, packet),
         }
     }
@@ -124,7 +102,7 @@ impl<'a> PolicyState<'a> {
         ensures policy { policy_in self.new ≡ policy_in self.old }
     {
         self.moment = self.moment.max(packet.moment);
-        self.leaf(packet)
+        self.stations.path(packet).leaf
     }
 
     /// Takes in a packet: the push steps run on its path, and `trace` gets the digits and the
@@ -151,6 +129,7 @@ impl<'a> PolicyState<'a> {
         ensures departures { self.new.departures ≡ self.old.departures }
         ensures policy { policy_in self.new ≡ policy_in self.old }
     {
+        let leaf = self.stations.path(packet).leaf;
         self.stations.reserve(packet)?;
         reserve_totals(&mut self.totals, &self.stations, packet)?;
         self.held.put(packet)?;
@@ -158,7 +137,6 @@ impl<'a> PolicyState<'a> {
         self.stations.push_steps(packet, moment, trace);
         self.moment = moment;
         add_to_totals(&mut self.totals, &self.stations, packet);
-        let leaf = self.leaf(packet);
         self.filled[leaf as usize] += 1;
         self.pushes += 1;
         Ok(leaf)
@@ -184,10 +162,10 @@ impl<'a> PolicyState<'a> {
         if !self.held.take(number, &mut self.leaver) {
             unreachable!()
         }
+        let leaf = self.stations.path(&self.leaver).leaf;
         self.stations
             .pop_steps(&self.leaver, digits, ranks, self.moment);
         take_from_totals(&mut self.totals, &self.stations, &self.leaver);
-        let leaf = self.leaf(&self.leaver);
         self.filled[leaf as usize] -= 1;
         Departed {
             packet: number,

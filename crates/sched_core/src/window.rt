@@ -5,8 +5,7 @@ ghost use Rattle.std.specs.VecDeque.{deque_len};
 ghost use Rattle.sched_defs.specs.SourceState.{without};
 ghost use Rattle.sched_core.specs.Chunks.{packet_within, numbers_below};
 
-use crate::chunk::Chunk;
-use crate::slot::{Slot, WIDTH};
+use crate::chunk::{Chunk, Slot, WIDTH};
 use packet_defs::Packet;
 use std::alloc::{AllocError, Global};
 use std::collections::VecDeque;
@@ -24,7 +23,7 @@ const OPEN: usize = 4;
 pub struct Window {
     first: u64,
     chunks: VecDeque<Chunk>,
-    end: u64,
+    pub(crate) end: u64,
     filled: u64,
     alloc: Global,
     ghost low: { first + deque_len chunks ≤ 2 ^ 57 },
@@ -46,14 +45,6 @@ impl Window {
             filled: 0,
             alloc,
         }
-    }
-
-    /// Returns the number after the last one so far.
-    #[inline(always)]
-    pub(crate) fn end(&self) -> u64
-        ensures { result ≡ end_of self.now }
-    {
-        self.end
     }
 
     /// Returns how many packets are in the window.
@@ -232,19 +223,10 @@ impl Window {
             return false;
         }
         self.filled -= 1;
-        self.trim();
-        true
-    }
-
-    #[inline(always)]
-    fn trim(&mut self)
-        ensures packets { (n : ℕ) → packet_at self.new n ≡ packet_at self.old n }
-        ensures end { end_of self.new ≡ end_of self.old }
-        ensures filled { self.new.filled ≡ self.old.filled }
-    {
-        while self.chunks.len() > 1 && self.chunks[0].is_empty() {
+        while self.chunks.len() > 1 && self.chunks[0].filled == 0 {
             self.chunks.pop_front();
             self.first += 1;
         }
+        true
     }
 }

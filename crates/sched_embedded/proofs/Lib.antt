@@ -4,5 +4,6 @@ pub mod LowRanks
 pub mod LiftMoves
 pub mod DepartedPackets
 pub mod ClassLanes
+pub mod PushedLanes
 pub mod QueuedTotals
 pub mod FivePoints

@@ -106,3 +106,13 @@ module _ (l : Laid) (good : IsGoodMap (length l.arities) l.images) (F : Family) 
           popped = image-of.popped ∙ ap (λ (z : Popping SourceTree). Some z) (λ i. record { value = image-of.value i; digits = sym d i; ranks = sym k i; left = r.left });
           lift = image-of.left;
         }
+
+-- the same of a map that is known to be the one laid
+pub popped-to : (inside l : Laid) → inside ≡ l → (good : IsGoodMap (length l.arities) l.images) (F : Family) (t : SourceTree) → HoldsLift l F t → (v : ℕ) (digits ranks found taken : List ℕ) (G : Family)
+    → found ≡ digits → taken ≡ ranks → Pops (length l.arities) F v digits ranks G → (way : Way)
+    → LeadsToLeaf inside.images way.digits → image_map inside.images way.digits ≡ found → way.ranks ≡ picked_ranks inside.images way.digits taken → PopsTo l t v way G
+popped-to inside l same good F t held v digits ranks found taken G e f pops way leads image ranks_of =
+    picked l good F t held v digits ranks G pops way
+    (subst (λ (z : Laid). LeadsToLeaf z.images way.digits) same leads)
+    (ap (λ (z : Laid). image_map z.images way.digits) (sym same) ∙ image ∙ e)
+    (ranks_of ∙ ap (λ (z : List ℕ). picked_ranks inside.images way.digits z) f ∙ ap (λ (z : Laid). picked_ranks z.images way.digits ranks) same)

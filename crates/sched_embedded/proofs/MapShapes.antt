@@ -66,3 +66,7 @@ sound-holds policy s l queues sound e lifted = record {
   shape = same_shape s.tree l.images (sound-shape policy s l.images sound e);
   lifted = lifted;
 }
+
+-- a tree laid into a complete tree is its images and the arities
+pub same_laid : (l : Laid) (images : Tree Address) (arities : List ℕ) → l.images ≡ images → l.arities ≡ arities → l ≡ record { images = images; arities = arities }
+same_laid l images arities p q = λ i. record { images = p i; arities = q i }

@@ -1,5 +1,5 @@
 -- How much is queued in a leaf or below a node, by the queued packets.
-use Rattle.sched_embedded.proofs.Prelude.{sym, ℕ, ◌∙◌, ap, ◌≡◌, subst, List, arith, length, Some, [], refl, ◌∷◌, ◌+◌, Option, map, ◌++◌, false, IsSome, inl, inr, nat_eq, ◌↔◌, if◌then◌else◌, option_map_or, AllByRecursion, Contains, Packet, Policy, held_count, values_are_numbers, IsSound, IsAtItsLeaf, SourceState, Held, class_of, leads_over, sum_over, total, size, Address}
+use Rattle.sched_embedded.proofs.Prelude.{sym, ℕ, ◌∙◌, ap, ◌≡◌, subst, List, arith, [], refl, ◌∷◌, ◌+◌, Option, map, ◌++◌, false, IsSome, inl, inr, nat_eq, ◌↔◌, if◌then◌else◌, option_map_or, AllByRecursion, Contains, Packet, Policy, held_count, values_are_numbers, IsSound, IsAtItsLeaf, SourceState, class_of, leads_over, sum_over, total, size, Address}
 use Rattle.std.proofs.lemmas.Bool.{eqb-false}
 use Rattle.std.specs.List.{IsDistinct}
 use Rattle.tree_defs.specs.Packets.{Placed, OneMore, values, packets}

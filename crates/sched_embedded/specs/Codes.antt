@@ -1,15 +1,17 @@
 -- How a tree laid into a target is stored as a ghost value. All proofs that two topologies are
--- equal are equal, and so are all proofs of where lanes lead.
-use Rattle.std.specs.Prelude.{◌≡◌, ℕ, List, refl}
-use Rattle.std.specs.Coded.{Coded, Coded-set, code_by, coded×, coded_ℕ, coded_list}
+-- equal are equal, and so are all proofs of where lanes and images lead.
+use Rattle.std.specs.Prelude.{◌≡◌, ℕ, List, [], ◌∷◌, refl}
+use Rattle.std.specs.Coded.{Coded, Coded-set, code_by, coded×, coded_ℕ, coded_list, Unit-prop, le_prop}
 use base.Stored.{coded_unit}
 use Rattle.tree_defs.specs.Tree.{Tree, Address}
 use Rattle.tree_defs.specs.Topology.{Topology}
 use Rattle.tree_defs.specs.Codes.{tree_code}
+use Rattle.embed_defs.specs.Family.{IsLeafAddress}
+use Rattle.embed_defs.specs.Images.{image_map}
 use Rattle.embed_core.specs.declared.lifted_path.LiftedPath.{LiftedPath}
 use Rattle.embed_core.specs.Lanes.{IsLaneTo}
 use Rattle.policy_defs.specs.Policy.{Policy}
-use Rattle.sched_embedded.specs.Laid.{Laid, HasLanes, leaf_of}
+use Rattle.sched_embedded.specs.Laid.{Laid, HasLanes, MapsToLeaves, leaf_of}
 
 abbrev pub laid_code : Coded Laid
 laid_code = code_by (Tree Address × List ℕ) (coded× (tree_code (coded_list coded_ℕ)) (coded_list coded_ℕ)) (λ l. (l.images, l.arities)) (λ p. record { images = p.0; arities = p.1 }) (λ _. refl)
@@ -31,3 +33,12 @@ one_way_to_have_lanes images policy lanes a b i = record {
   whole = Coded-set coded_ℕ _ _ a.whole b.whole i;
   each = λ n lane at. IsLaneTo-prop images (leaf_of policy n) lane (a.each n lane at) (b.each n lane at) i;
 }
+
+IsLeafAddress-prop : (arities : List ℕ) (a : Address) → IsProp (IsLeafAddress arities a)
+IsLeafAddress-prop [] [] = Unit-prop
+IsLeafAddress-prop [] (x ∷ a) = λ p q. absurd p
+IsLeafAddress-prop (d ∷ arities) [] = λ p q. absurd p
+IsLeafAddress-prop (d ∷ arities) (x ∷ a) = λ p q i. (le_prop p.0 q.0 i, IsLeafAddress-prop arities a p.1 q.1 i)
+
+pub one_way_to_map_to_leaves : (images : Tree Address) (arities : List ℕ) → IsProp (MapsToLeaves images arities)
+one_way_to_map_to_leaves images arities p q i = λ a leads. IsLeafAddress-prop arities (image_map images a) (p a leads) (q a leads) i

@@ -1,7 +1,7 @@
 -- A tree laid into a complete tree of queues.
 use Rattle.std.specs.Prelude.{◌≡◌, ◌+◌, ℕ, List, [], length, slice_get, unwrap_or, Some}
 use Rattle.tree_defs.specs.Tree.{Tree, Address, LeadsToLeaf, SameShape}
-use Rattle.tree_defs.specs.SourceTree.{SourceTree, push, pop, IsWellFormed}
+use Rattle.tree_defs.specs.SourceTree.{SourceTree, pop, IsWellFormed}
 use Rattle.tree_core.specs.Paths.{Way}
 use Rattle.embed_defs.specs.Family.{Family, IsLeafAddress}
 use Rattle.embed_defs.specs.Images.{image_map}
@@ -20,6 +20,10 @@ pub record Laid : Type 0 where
 pub record IsLaid (images : Tree Address) (arities : List ℕ) : Type 0 where
   pub good : IsGoodMap (length arities) images
   pub leaves : (a : Address) → LeadsToLeaf images a → IsLeafAddress arities (image_map images a)
+
+-- each leaf of the tree is mapped to a leaf of the complete tree
+abbrev pub MapsToLeaves : Tree Address → List ℕ → Type 0
+MapsToLeaves images arities = (a : Address) → LeadsToLeaf images a → IsLeafAddress arities (image_map images a)
 
 -- the leaf of each of a policy's classes
 abbrev pub leaf_of : Policy → ℕ → Address
@@ -42,28 +46,9 @@ pub record HoldsLift (l : Laid) (queues : Family) (t : SourceTree) : Type 0 wher
   pub shape : SameShape t l.images
   pub lifted : IsLift t (image_map l.images) queues
 
-abbrev pub IsLiftOfOne : Laid → Family → Type 0
-IsLiftOfOne l queues = (t : SourceTree) × HoldsLift l queues t
-
--- P holds of each source tree whose lift the queues are
-abbrev pub ForEachLifted : Laid → Family → (SourceTree → Type 0) → Type 0
-ForEachLifted l queues P = (t : SourceTree) → HoldsLift l queues t → P t
-
--- a push of a packet's number along a path
-abbrev pub push_on : Way → ℕ → SourceTree → SourceTree
-push_on way number t = push t way.digits way.ranks number
-
--- each such tree becomes another one, whose lift the queues are then
-abbrev pub EachLiftBecomes : Laid → Family → Family → (SourceTree → SourceTree) → Type 0
-EachLiftBecomes l old new f = ForEachLifted l old (λ t. HoldsLift l new (f t))
-
 -- a pop of the source tree gives this number on this path, and leaves a tree whose lift the queues
 -- are
 pub record PopsTo (l : Laid) (t : SourceTree) (number : ℕ) (way : Way) (queues : Family) : Type 0 where
   pub left : SourceTree
   pub popped : pop t ≡ Some (record { value = number; digits = way.digits; ranks = way.ranks; left = left })
   pub lift : HoldsLift l queues left
-
--- the same for a pop of each source tree whose lift the queues were
-abbrev pub EachLiftPops : Laid → Family → ℕ → Way → Family → Type 0
-EachLiftPops l old number way new = ForEachLifted l old (λ t. PopsTo l t number way new)

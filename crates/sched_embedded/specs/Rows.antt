@@ -1,12 +1,11 @@
 -- Worked examples of runs through a fabric.
 use Rattle.std.specs.Prelude.{◌≡◌, refl, None, Some, List, [], ◌∷◌}
 use Rattle.tree_defs.specs.Tree.{Tree, leaf, inner, none, more, Address}
-use Rattle.tree_defs.specs.SourceTree.{two_leaves}
 use Rattle.sched_defs.specs.SourceState.{start}
 use Rattle.sched_defs.specs.Events.{Event, Arrive, Depart, pushed_in, asked_in}
 use Rattle.sched_defs.specs.Rows.{packet, in_turn, inversion, one_leaf_limited}
 use Rattle.sched_core.specs.Spills.{raised, spills_in}
-use Rattle.sched_embedded.specs.Laid.{leaf_of, push_on}
+use Rattle.sched_embedded.specs.Laid.{leaf_of}
 use Rattle.sched_embedded.specs.Fabrics.{FabricRun, outcomes_of}
 
 -- ---- leaves of classes
@@ -15,10 +14,6 @@ leaf_of-second_class = refl
 
 pub leaf_of-no_such_class : leaf_of in_turn 2 ≡ []
 leaf_of-no_such_class = refl
-
--- ---- pushes
-pub push_on-second_leaf : push_on (record { digits = 1 ∷ []; ranks = 3 ∷ 7 ∷ []; room = 1 }) 2 two_leaves ≡ inner ((3, 1) ∷ []) (more (leaf []) (more (leaf ((7, 2) ∷ [])) none))
-push_on-second_leaf = refl
 
 -- ---- pushes and pops of a fabric
 -- a leaf with a limit of one packet: the second packet is dropped, and the last two departures find

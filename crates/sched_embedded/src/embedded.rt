@@ -7,10 +7,10 @@ ghost use Rattle.embed_defs.specs.Target.{IsInRange};
 ghost use Rattle.embed_defs.specs.Images.{image_map};
 ghost use Rattle.embed_defs.specs.Embedding.{IsEmbedding};
 ghost use Rattle.embed_defs.specs.GoodMaps.{IsGoodMap};
-ghost use Rattle.sched_embedded.specs.Laid.{HasLanes};
+ghost use Rattle.sched_embedded.specs.Laid.{HasLanes, MapsToLeaves};
 ghost use Rattle.sched_defs.specs.SourceState.{start};
 ghost use Rattle.sched_core.specs.PolicyState.{policy_in};
-ghost use Rattle.sched_embedded.specs.Codes.{one_way_to_be_the_same, one_way_to_have_lanes};
+ghost use Rattle.sched_embedded.specs.Codes.{one_way_to_be_the_same, one_way_to_have_lanes, one_way_to_map_to_leaves};
 
 use crate::embedding::Embedding;
 use embed_core::{LiftedPath, Map};
@@ -34,6 +34,7 @@ pub struct Embedded<'a, F> {
     fabric: PhantomData<F>,
     ghost few: { (pushes_before < 2 ^ 61) × (pops_before < 2 ^ 61) },
     ghost lanes_lead: { HasLanes embedding.images (policy_in own) lanes.items } by { one_way_to_have_lanes embedding.images (policy_in own) lanes.items },
+    ghost leaves: { MapsToLeaves embedding.images embedding.arities } by { one_way_to_map_to_leaves embedding.images embedding.arities },
     ghost shape: { topology_of (policy_in own).tree ≡ topology_of embedding.images } by { one_way_to_be_the_same (topology_of (policy_in own).tree) (topology_of embedding.images) },
 }
 
@@ -130,20 +131,24 @@ impl<'a, F: Fabric> Scheduler for Embedded<'a, F> {
         if self.own.is_full(packet) {
             return Ok(Arrival::Dropped(self.own.drop_packet(packet)));
         }
-        let class = packet.class as usize;
-        under.reserve(self.embedding.image(&self.lanes[class]))?;
+        let lane = &self.lanes[packet.class as usize];
+        under.reserve(lane.image())?;
         let leaf = self.own.admit(packet, trace)?;
-        self.embedding
-            .push(under, &self.lanes[class], trace, packet.number);
+        let embedding = &mut self.embedding;
+        lane.lift(trace.ranks(), &mut embedding.ranks);
+        under.push(lane.image(), &embedding.ranks, packet.number);
         Ok(Arrival::Pushed(leaf))
     }
 
     #[inline(always)]
     fn depart(&mut self, under: &mut F, trace: &mut Taken) -> Option<Departed> {
-        let Some(number) = self.embedding.pop(under, &self.lanes, trace) else {
+        let embedding = &mut self.embedding;
+        let Some(number) = under.pop(&mut embedding.digits, &mut embedding.ranks) else {
             self.own.count_empty_departure();
             return None;
         };
+        let (table, map) = (&embedding.table, &embedding.map);
+        table.pick(map, &self.lanes, &embedding.digits, &embedding.ranks, trace);
         Some(self.own.release(number, trace.digits(), trace.ranks()))
     }
 

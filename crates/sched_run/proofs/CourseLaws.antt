@@ -1,5 +1,5 @@
 -- The course of a script, step by step.
-use Rattle.sched_run.proofs.Prelude.{ℕ, arith, None, ◌∙◌, ◌≡◌, refl, sym, List, subst, [], ◌+◌, ap, Some, Option, ◌++◌, ◌∷◌, length, append-nil, append_assoc, map, IfSome, counts_of, count_of, Policy, Ghosts, Event, after, Left, Course, Step, behind, left_by, step_events, stop_at, at_end, course, stopped_or, SourceState, Ending, Courses, IsCourse, script_agenda, Recordings, Stage, event_of, FromEach, StopsAmid, AreFirst, Turns, IsTurn}
+use Rattle.sched_run.proofs.Prelude.{get_or, suc, zero, ◌≤◌, ℕ, arith, None, ◌∙◌, ◌≡◌, refl, sym, List, subst, [], ◌+◌, ap, Some, Option, ◌++◌, ◌∷◌, length, append-nil, append_assoc, map, IfSome, counts_of, count_of, Policy, Ghosts, Event, after, Left, Course, Step, behind, left_by, step_events, stop_at, at_end, course, stopped_or, SourceState, Ending, Courses, IsCourse, script_agenda, Recordings, Stage, event_of, FromEach, StopsAmid, AreFirst, Turns, IsTurn}
 use Rattle.events_core.specs.declared.step.Step as line
 use Rattle.events_core.specs.declared.step.Step.TheVariants as line_step
 use Rattle.sched_run.specs.Steps.{step_of, asked_by}
@@ -53,6 +53,12 @@ asked_is (line_step.Arrive n) = refl
 asked_is (line_step.Depart n) = refl
 asked_is line_step.Rest = refl
 asked_is line_step.Drain = refl
+
+-- no step asks for more than all of them
+pub short_step : (steps : List line.Step) (i most : ℕ) → counts_of steps ≤ most → asked_by (step_of (get_or steps i (line_step.Arrive 0))) ≤ most
+short_step [] i most few = omega arith
+short_step (s ∷ steps) zero most few = omega (arith, few, asked_is s)
+short_step (s ∷ steps) (suc i) most few = short_step steps i most (omega (arith, few))
 
 module _ {C U W : Type 0} (S : Ghosts C U) (R : Recordings W) (policy : Policy) (step : line.Step) (rest : List line.Step) (a : Option Left) (old : Stage C U W) where
   -- the events of a step and the number of the next one

@@ -5,6 +5,7 @@ pub mod HeardLaws
 pub mod ShownLaws
 pub mod LineLaws
 pub mod MadeEvents
+pub mod EventLaws
 pub mod PacketsInTurn
 pub mod EventCounts
 pub mod StepLaws

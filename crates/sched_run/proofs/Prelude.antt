@@ -1,5 +1,5 @@
 -- The names that the proofs of this crate take from outside, passed on from one place. Declares nothing.
-pub use Rattle.std.proofs.Common.{ℕ, arith, None, ◌∙◌, ◌≡◌, refl, sym, List, subst, [], ◌+◌, ap, Some, ◌≤◌, Option, ◌++◌, ◌∷◌, length, append-nil, false, replicate, ◌<◌, Bool, append_assoc, ◌-◌, map, suc, true, if◌then◌else◌, zero, Ok, add-one, drop, ◌*◌, ◌^◌, length-append, max, ◌==◌, drop-cons, is_some, nat_lt, take}
+pub use Rattle.std.proofs.Common.{get_or, ℕ, arith, None, ◌∙◌, ◌≡◌, refl, sym, List, subst, [], ◌+◌, ap, Some, ◌≤◌, Option, ◌++◌, ◌∷◌, length, append-nil, false, replicate, ◌<◌, Bool, append_assoc, ◌-◌, map, suc, true, if◌then◌else◌, zero, Ok, add-one, drop, ◌*◌, ◌^◌, length-append, max, ◌==◌, drop-cons, is_some, nat_lt, take}
 pub use Rattle.std.proofs.lemmas.List.{map-append, replicate-append-replicate, take_all}
 pub use Rattle.std.proofs.lemmas.Result.{err_from_is_err_and, on_err_weaker, on_ok_weaker, IfOk-weaker}
 pub use Rattle.std.specs.Prelude.{IfSome, option_map, IfOk, OnErr, Result, Err, IfNone, IsNone, OnOk, sum_by, ◌↔◌}

@@ -1,12 +1,14 @@
 -- The conditions that each call of a run needs and keeps.
-use Rattle.std.specs.Prelude.{◌≡◌, ◌≤◌, ◌<◌, ◌+◌, ◌^◌, ℕ, Bool, if◌then◌else◌, Result, IfOk, IfErr, OnOk, OnErr}
+use Rattle.std.specs.Prelude.{◌≡◌, ◌≤◌, ◌<◌, ◌+◌, ◌^◌, ℕ, Bool, Result, IfErr, OnOk, OnErr}
 use Rattle.outside_core.specs.Kept.{KeepsSink, HasCause, HasSinkCause}
 use Rattle.outside_core.specs.declared.stop.Stop.{Stop}
 use Rattle.outside_core.specs.declared.sinks.Sink as sink
 use Rattle.tree_defs.specs.Tree.{depth}
 use Rattle.policy_defs.specs.Policy.{Policy}
 use Rattle.policy_defs.specs.Accepted.{IsAccepted}
+use Rattle.events_core.specs.Script.{most_count}
 use Rattle.sched_defs.specs.SourceState.{SourceState}
+use Rattle.sched_defs.specs.Script.{Step}
 use Rattle.sched_defs.specs.Packets.{most_packets, StaysKnown}
 use Rattle.sched_defs.specs.declared.packets.Packets as packets
 use Rattle.sched_core.specs.declared.scheduler.Scheduler.{Ghosts}
@@ -16,6 +18,8 @@ use Rattle.tap_core.specs.Watching.{Sight, AreNoMore}
 use Rattle.sched_run.specs.declared.recorder.Recorder as recorder
 use Rattle.sched_run.specs.declared.run.Run.{Run}
 use Rattle.sched_run.specs.declared.tally.Tally.{Tally}
+use Rattle.sched_run.specs.Stages.{IsFresh, HasRoomFor}
+use Rattle.sched_run.specs.Steps.{asked_by}
 
 -- the policy is accepted, the node names and the version are the policy's own, the trace has room
 -- for a path, and outcomes can be recorded
@@ -36,10 +40,13 @@ pub record Continues {C U N W : Type 0} (S : Ghosts C U) (old new : Run C N W) :
   pub room : new.trace.room ≡ old.trace.room
 
 -- A call on the run that reads no packets leaves the policy, the names and what the sink was given.
--- Outcomes can still be recorded unless the call fails, and it fails only for a cause.
-pub record KeepsRun {C U N W K X : Type 0} (S : Ghosts C U) (R : recorder.Ghosts W) (k : sink.Ghosts K) (result : Result X Stop) (old new : Run C N W) (to to' : K) : Type 0 where
+-- Outcomes can still be recorded unless the call fails, and it fails only for a cause. No taps were
+-- added.
+pub record KeepsShown {C U N W K X : Type 0} (S : Ghosts C U) (R : recorder.Ghosts W) (k : sink.Ghosts K) (result : Result X Stop) (old new : Run C N W) (to to' : K)
+    (sight sight' : Sight) : Type 0 where
   pub kept : Continues S old new
   pub live : OnOk result (R.live new.recorder)
+  pub fewer : AreNoMore sight sight'
   pub kept_sink : KeepsSink k.written k.faults to to'
   pub cause : IfErr result (λ stop. HasSinkCause stop k.faults to to')
 
@@ -73,16 +80,47 @@ pub record Feeds {C U N W P F : Type 0} (S : Ghosts C U) (p : packets.Ghosts P F
   pub packets : p.policy left ≡ S.policy run.scheduler
   pub ready : p.ready left source
 
+-- A run can begin over these packets: no event was counted yet, more packets may be read, and the
+-- counts have room for all of them.
+pub record CanBeginRun {C U N W P F : Type 0} (S : Ghosts C U) (p : packets.Ghosts P F) (run : Run C N W) (left : P) (source : F) : Type 0 where
+  pub feeds : Feeds S p run left source
+  pub counts : HasRoomFor S run (p.given left)
+  pub fresh : IsFresh run.tally
+
 -- the counts have room for one more arrival
 pub record HasRoomForOne {C U N W : Type 0} (S : Ghosts C U) (run : Run C N W) : Type 0 where
   pub pushes : S.pushes run.scheduler < 2 ^ 61
   pub events : run.tally.came + run.tally.asked < 2 ^ 62
   pub dropped : run.tally.dropped ≤ run.tally.came
 
--- one arrival was counted, unless the answer says that the run is over or the call failed
-pub record CountsOne {X : Type 0} (over : X → Bool) (result : Result X Stop) (old new : Tally) : Type 0 where
-  pub came : IfOk result (λ x. new.came ≡ (if over x then old.came else old.came + 1))
-  pub stays : OnErr result (new.came ≡ old.came)
+-- the counts have room for one more arrival or departure
+pub record HasRoomForEither {C U N W : Type 0} (S : Ghosts C U) (run : Run C N W) : Type 0 where
+  pub arrival : HasRoomForOne S run
+  pub departures : S.departures run.scheduler < 2 ^ 61
+
+-- the counts have room for so many departures
+pub record HasRoomToDepart {C U N W : Type 0} (S : Ghosts C U) (run : Run C N W) (count : ℕ) : Type 0 where
+  pub departures : S.departures run.scheduler + count ≤ 2 ^ 61
+  pub events : run.tally.came + run.tally.asked + count ≤ 2 ^ 62
+
+-- the counts have room for a step of a script after this many packets
+pub record HasRoomForStep {C U N W : Type 0} (S : Ghosts C U) (run : Run C N W) (given : ℕ) (step : Step) : Type 0 where
+  pub room : HasRoomFor S run given
+  pub short : asked_by step ≤ most_count
+
+-- One arrival was counted unless the call failed, and no departure was. Nothing more can be recorded
+-- only if that was so before.
+pub record CountsArrival {C N W X : Type 0} (ended : W → Bool) (result : Result X Stop) (old new : Run C N W) : Type 0 where
+  pub came : OnOk result (new.tally.came ≡ old.tally.came + 1)
+  pub stays : OnErr result (new.tally.came ≡ old.tally.came)
+  pub asked : new.tally.asked ≡ old.tally.asked
+  pub over : OnOk result (ended new.recorder ≡ ended old.recorder)
+
+-- no arrival was counted, and unless the call failed, P holds of the number of departures
+pub record CountsDepartures {X : Type 0} (P : ℕ → Type 0) (result : Result X Stop) (old new : Tally) : Type 0 where
+  pub came : new.came ≡ old.came
+  pub dropped : new.dropped ≡ old.dropped
+  pub asked : OnOk result (P new.asked)
 
 -- the counts have room for a whole run after this many packets
 pub record HasRoomToBegin {C U N W : Type 0} (S : Ghosts C U) (run : Run C N W) (given : ℕ) : Type 0 where

@@ -1,5 +1,9 @@
 -- Recorders of a run's outcomes: as lines of a report, or in another form.
-use Rattle.std.specs.Prelude.{ℕ, ◌+◌, Option, List, [], ◌++◌, length}
+use Rattle.std.specs.Prelude.{ℕ, ◌+◌, Option, List, [], ◌++◌, length, Result, IfErr, OnOk, OnErr}
+use Rattle.outside_core.specs.Faults.{Rose}
+use Rattle.outside_core.specs.Kept.{KeepsSink, HasSinkCause}
+use Rattle.outside_core.specs.declared.stop.Stop.{Stop}
+use Rattle.outside_core.specs.declared.sinks.Sink as sink
 use Rattle.policy_defs.specs.Policy.{Policy}
 use Rattle.sched_defs.specs.Events.{Outcome}
 
@@ -24,3 +28,18 @@ pub record AreJoined {W : Type 0} (records : Recording W) (cuts : Cutting W) : T
 pub record Recordings (W : Type 0) : Type 1 where
   pub records : Recording W
   pub cuts : Cutting W
+
+-- A call that records outcomes leaves what the sink was given. It fails only if the sink does. More
+-- can be recorded after it exactly if it didn't fail.
+pub record KeepsRecord {W K X E : Type 0} (records : W → Type 0) (k : sink.Ghosts K) (result : Result X E) (recorder : W) (to to' : K) : Type 0 where
+  pub kept : KeepsSink k.written k.faults to to'
+  pub cause : OnErr result (Rose (k.faults to) (k.faults to'))
+  pub live : OnOk result (records recorder)
+  pub dead : OnErr result (records recorder → ⊥)
+
+-- the same for a call that may also fail because memory is out
+pub record KeepsArrival {W K X : Type 0} (records : W → Type 0) (k : sink.Ghosts K) (result : Result X Stop) (recorder : W) (to to' : K) : Type 0 where
+  pub kept : KeepsSink k.written k.faults to to'
+  pub cause : IfErr result (λ stop. HasSinkCause stop k.faults to to')
+  pub live : OnOk result (records recorder)
+  pub dead : OnErr result (records recorder → ⊥)

@@ -1,13 +1,11 @@
 -- What taps are shown of a run: each packet that departed, and each that was dropped.
-use Rattle.std.specs.Prelude.{Option, None, Some, List, [], ◌∷◌, ◌++◌}
+use Rattle.std.specs.Prelude.{List, [], ◌∷◌, ◌++◌}
 use Rattle.tree_defs.specs.Tree.{Address}
 use Rattle.packet_defs.specs.declared.packet.Packet.{Packet}
 use Rattle.packet_defs.specs.declared.packet.Departed.{Departed}
 use Rattle.policy_defs.specs.Policy.{Policy}
 use Rattle.policy_defs.specs.Numbers.{number_at}
 use Rattle.sched_defs.specs.Events as events
-use Rattle.sched_core.specs.declared.scheduler.Arrival.{Arrival}
-use Rattle.sched_core.specs.declared.scheduler.Arrival.TheVariants as arrival
 use Rattle.tap_core.specs.declared.kinds.Dropped.{Dropped}
 use Rattle.tap_core.specs.Lists.{Shown, departed, dropped}
 
@@ -28,14 +26,3 @@ shown_of policy events.Empty = []
 abbrev pub shown_in : Policy → List events.Outcome → List Shown
 shown_in policy [] = []
 shown_in policy (o ∷ os) = shown_of policy o ++ shown_in policy os
-
--- ---- the packets that one event shows
--- a dropped packet, by the answer of its arrival
-abbrev pub shown_arrival : Packet → Arrival → List Shown
-shown_arrival p (arrival.Pushed leaf) = []
-shown_arrival p (arrival.Dropped leaf) = dropped (record { packet = p.number; class = p.class; leaf = leaf; len = p.len }) ∷ []
-
--- a departed packet, by the answer of its departure
-abbrev pub shown_departure : Option Departed → List Shown
-shown_departure None = []
-shown_departure (Some d) = departed d ∷ []

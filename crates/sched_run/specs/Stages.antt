@@ -8,8 +8,6 @@ use Rattle.sched_defs.specs.SourceState.{SourceState, start}
 use Rattle.sched_defs.specs.Events.{Event, Arrive, Depart, outcomes, dropped_in}
 use Rattle.sched_defs.specs.Packets.{most_packets}
 use Rattle.sched_defs.specs.Numbered.{AreNumberedFrom, IsSendable, IsHeldBelow}
-use Rattle.sched_core.specs.declared.scheduler.Arrival.{Arrival}
-use Rattle.sched_core.specs.declared.scheduler.Arrival.TheVariants.{Pushed, Dropped}
 use Rattle.sched_core.specs.declared.scheduler.Scheduler.{Ghosts}
 use Rattle.sched_core.specs.Standing.{ForEachState}
 use Rattle.sched_run.specs.Played.{Plays, StopsIn}
@@ -45,11 +43,6 @@ pub record IsFresh (tally : Tally) : Type 0 where
   pub none_came : tally.came ≡ 0
   pub none_dropped : tally.dropped ≡ 0
   pub none_asked : tally.asked ≡ 0
-
--- the drops in an arrival's answer, 0 or 1
-abbrev pub drops_of : Arrival → ℕ
-drops_of (Pushed leaf) = 0
-drops_of (Dropped leaf) = 1
 
 -- P holds of each sound state that the stage represents and in which no packet yet to arrive is
 -- queued

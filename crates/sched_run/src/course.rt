@@ -101,7 +101,7 @@ impl<'a, C: Scheduler + Drop, N: NodeNames, W: DepartureRecorder> Run<'a, C, N, 
     ghost use Rattle.events_core.specs.Script.{most_count};
     ghost use Rattle.events_core.specs.Steps.{counts_of};
     ghost use Rattle.sched_run.specs.Heard.{heard};
-    ghost use Rattle.sched_run.specs.Frames.{IsSet, Stand, Feeds, KeepsPlay};
+    ghost use Rattle.sched_run.specs.Frames.{IsSet, Stand, Feeds, CanBeginRun, KeepsPlay};
     ghost use Rattle.sched_run.specs.Stages.{stage_of, event_of, IsFresh, CanBegin, HasRoomFor};
     ghost use Rattle.sched_run.specs.Turns.{StopsAmid};
     ghost use Rattle.tap_core.specs.Watching.{sight_of};
@@ -120,10 +120,8 @@ impl<'a, C: Scheduler + Drop, N: NodeNames, W: DepartureRecorder> Run<'a, C, N, 
         steps: &[Step],
     ) -> Result<Ending, Stop>
         requires set { IsSet C.Scheduler W.Recorder N.policy self.old }
-        requires feeds { Feeds C.Scheduler P.Packets self.old packets.old source.old }
         requires stands { Stand C.Scheduler self.old under.old (CanBegin (P.given packets.old)) }
-        requires counts { HasRoomFor C.Scheduler self.old (P.given packets.old) }
-        requires fresh { IsFresh self.old.tally }
+        requires begins { CanBeginRun C.Scheduler P.Packets self.old packets.old source.old }
         requires short { counts_of steps.now ≤ most_count }
 
         ensures ok { IfOk result (λ e.

@@ -2,27 +2,23 @@
 //! report, and shows departures and drops to the taps that watch. Begin with specs/Courses.antt.
 #![tactic(auto)]
 
-mod arrivals;
 mod course;
 mod departure;
 mod drawing;
 mod laws;
-mod lines;
 mod link;
 mod load;
 mod pace;
 mod recorder;
 mod report;
 mod run;
-mod shown;
 mod steps;
 mod sum;
 mod tally;
 
-pub use departure::{Departure, DepartureRecorder};
+pub use departure::{Departure, DepartureRecorder, depart_line};
 pub use drawing::Drawing;
 pub use laws::{loads_leave_nothing, runs_begin_at_the_start};
-pub use lines::depart_line;
 pub use load::MOST_LOAD;
 pub use pace::Pace;
 pub use recorder::Recorder;

@@ -46,19 +46,15 @@ fn idle_at(link: &mut Link, held: u64, moment: u64)
 }
 
 impl<'a, C: Scheduler + Drop, N: NodeNames, W: DepartureRecorder> Run<'a, C, N, W> {
-    ghost use Rattle.std.specs.Prelude.{◌≡◌, ◌≤◌, ◌<◌, ◌+◌, ◌^◌, ℕ, false, not, if◌then◌else◌, is_some, length, IfOk, IfSome, OnOk, OnErr};
-    ghost use Rattle.pcap_defs.specs.Record.{most_captured};
-    ghost use Rattle.sched_defs.specs.SendTime.{IsRate};
+    ghost use Rattle.std.specs.Prelude.{◌≡◌, ◌≤◌, ◌+◌, ◌^◌, ℕ, if◌then◌else◌, IfOk, OnErr};
     ghost use Rattle.tree_defs.specs.SourceTree.{size};
     ghost use Rattle.sched_defs.specs.Link.{send_until, link_turn};
-    ghost use Rattle.sched_defs.specs.Numbered.{IsSendable, IsHeldBelow};
+    ghost use Rattle.sched_defs.specs.Numbered.{IsHeldBelow};
     ghost use Rattle.sched_run.specs.Heard.{heard_anyway, heard, heard_with};
-    ghost use Rattle.sched_run.specs.Frames.{IsSet, Stand, Feeds, HasRoomForOne, CountsOne, KeepsRun, KeepsPlay};
-    ghost use Rattle.sched_run.specs.Stages.{stage_of, event_of, IsFresh, CanBegin, HasRoomFor};
-    ghost use Rattle.sched_run.specs.Turns.{StopsAmid};
-    ghost use Rattle.tap_core.specs.Watching.{sight_of, AreNoMore};
-    ghost use Rattle.sched_run.specs.Links.{SendsUnless, SendsAmid, CanSend, IsPaced, Paces};
-    ghost use Rattle.sched_run.specs.Steps.{IsNoPastLast};
+    ghost use Rattle.sched_run.specs.Frames.{IsSet, Stand, CanBeginRun, CountsDepartures, KeepsShown, KeepsPlay};
+    ghost use Rattle.sched_run.specs.Stages.{stage_of, CanBegin};
+    ghost use Rattle.tap_core.specs.Watching.{sight_of};
+    ghost use Rattle.sched_run.specs.Links.{SendsUnless, SendsAmid, CanSend, CanCome, IsPaced, IsPacedForOne, Paces, PacesOne, CanPace, EndsLink};
     ghost use Rattle.sched_run.specs.Courses.{link_agenda, CoursesUnless, CoursesAmid};
 
     /// Sends queued packets as long as the link is free before the timestamp, or all of them if
@@ -87,13 +83,10 @@ impl<'a, C: Scheduler + Drop, N: NodeNames, W: DepartureRecorder> Run<'a, C, N, 
             (stage_of self.old under.old (K.written sink.old) given
             (sight_of T.kind_of T.state_of watch.old)) self.new.scheduler under.new (K.written sink.new)) }
         ensures paces { Paces W.over result self.new link.new }
-        ensures came { self.new.tally.came ≡ self.old.tally.came }
-        ensures dropped { self.new.tally.dropped ≡ self.old.tally.dropped }
-        ensures few { OnOk result (self.new.tally.asked ≤ 2 ^ 34) }
-        ensures keeps { KeepsRun C.Scheduler W.Recorder K.Sink result self.old self.new sink.old
-            sink.new }
-        ensures fewer { AreNoMore (sight_of T.kind_of T.state_of watch.old)
-            (sight_of T.kind_of T.state_of watch.new) }
+        ensures counts { CountsDepartures (λ n. n ≤ 2 ^ 34) result self.old.tally self.new.tally }
+        ensures keeps { KeepsShown C.Scheduler W.Recorder K.Sink result self.old self.new sink.old
+            sink.new
+            (sight_of T.kind_of T.state_of watch.old) (sight_of T.kind_of T.state_of watch.new) }
     {
         let held = self.scheduler.held();
         for _sent in 0..held {
@@ -123,13 +116,11 @@ impl<'a, C: Scheduler + Drop, N: NodeNames, W: DepartureRecorder> Run<'a, C, N, 
         packet: &Packet,
         captured: &[u8],
     ) -> Result<bool, Stop>
-        requires short { length captured.now ≤ most_captured }
         requires set { IsSet C.Scheduler W.Recorder N.policy self.old }
         requires stands { Stand C.Scheduler self.old under.old (λ s.
             IsHeldBelow packet.now.number s.held × CanSend self.old.tally s) }
-        requires room { HasRoomForOne C.Scheduler self.old }
-        requires sendable { IsSendable (C.policy self.old.scheduler) packet.now }
-        requires paced { IsPaced C.Scheduler W.over self.old link.old rate }
+        requires comes { CanCome (C.policy self.old.scheduler) packet.now captured.now }
+        requires paced { IsPacedForOne C.Scheduler W.over self.old link.old rate }
 
         ensures ok { IfOk result (λ over. (given : ℕ) → packet.now.number ≡ given + 1 →
             SendsUnless over C.Scheduler (heard_with W.Recorder packet.now captured.now) W.over
@@ -143,12 +134,10 @@ impl<'a, C: Scheduler + Drop, N: NodeNames, W: DepartureRecorder> Run<'a, C, N, 
             (λ s. link_turn (C.policy self.old.scheduler) rate packet.now s link.old)
             (stage_of self.old under.old (K.written sink.old) given
             (sight_of T.kind_of T.state_of watch.old)) self.new.scheduler under.new (K.written sink.new)) }
-        ensures paces { Paces W.over result self.new link.new }
-        ensures counts { CountsOne (λ over. over) result self.old.tally self.new.tally }
-        ensures keeps { KeepsRun C.Scheduler W.Recorder K.Sink result self.old self.new sink.old
-            sink.new }
-        ensures fewer { AreNoMore (sight_of T.kind_of T.state_of watch.old)
-            (sight_of T.kind_of T.state_of watch.new) }
+        ensures paces { PacesOne W.over result self.old self.new link.new }
+        ensures keeps { KeepsShown C.Scheduler W.Recorder K.Sink result self.old self.new sink.old
+            sink.new
+            (sight_of T.kind_of T.state_of watch.old) (sight_of T.kind_of T.state_of watch.new) }
     {
         let moment = self.scheduler.now().max(packet.moment);
         let over = self.send_until(under, sink, watch, link, rate, Some(moment))?;
@@ -173,12 +162,9 @@ impl<'a, C: Scheduler + Drop, N: NodeNames, W: DepartureRecorder> Run<'a, C, N, 
         rate: LinkRate,
     ) -> Result<Option<Ending>, Stop>
         requires set { IsSet C.Scheduler W.Recorder N.policy self.old }
-        requires going { W.over self.old.recorder ≡ false }
-        requires feeds { Feeds C.Scheduler P.Packets self.old packets.old source.old }
         requires stands { Stand C.Scheduler self.old under.old (CanBegin (P.given packets.old)) }
-        requires counts { HasRoomFor C.Scheduler self.old (P.given packets.old) }
-        requires fresh { IsFresh self.old.tally }
-        requires rate { IsRate rate }
+        requires begins { CanBeginRun C.Scheduler P.Packets self.old packets.old source.old }
+        requires paced { CanPace W.over self.old.recorder rate }
 
         ensures ok { IfOk result (λ e.
             CoursesUnless e C.Scheduler (heard W.Recorder (P.captures packets.old source.old)) W.over
@@ -197,8 +183,7 @@ impl<'a, C: Scheduler + Drop, N: NodeNames, W: DepartureRecorder> Run<'a, C, N, 
         ensures keeps { KeepsPlay C.Scheduler W.Recorder P.Packets K.Sink result self.old self.new
             packets.old packets.new source.old source.new sink.old sink.new
             (sight_of T.kind_of T.state_of watch.old) (sight_of T.kind_of T.state_of watch.new) }
-        ensures ends { IfOk result (λ o. IfSome o IsNoPastLast) }
-        ensures over { IfOk result (λ o. W.over self.new.recorder ≡ not (is_some o)) }
+        ensures ends { EndsLink W.over result self.new.recorder }
     {
         let mut link = Link::new();
         let mut packet = BLANK;

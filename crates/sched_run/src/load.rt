@@ -14,16 +14,16 @@ use tap_core::{Tap, Watching};
 pub const MOST_LOAD: u64 = 1_000_000;
 
 impl<'a, C: Scheduler + Drop, N: NodeNames, W: DepartureRecorder> Run<'a, C, N, W> {
-    ghost use Rattle.std.specs.Prelude.{◌≡◌, ◌≤◌, ◌<◌, ◌+◌, ◌^◌, ℕ, [], ◌∷◌, IfOk, OnOk, OnErr};
+    ghost use Rattle.std.specs.Prelude.{◌≡◌, ◌≤◌, ◌+◌, ℕ, [], ◌∷◌, IfOk, OnOk, OnErr};
     ghost use Rattle.sched_defs.specs.Numbered.{IsHeldBelow};
     ghost use Rattle.sched_core.specs.Standing.{ForEachState};
     ghost use Rattle.sched_run.specs.Heard.{heard_without};
-    ghost use Rattle.sched_run.specs.Frames.{IsSet, Stand, HasRoomForOne, HasRoomToBegin, KeepsRun};
+    ghost use Rattle.sched_run.specs.Frames.{IsSet, Stand, HasRoomForEither, HasRoomToBegin, KeepsShown};
     ghost use Rattle.sched_run.specs.Load.{first_drawing, load_event, load_events, load_next, load_run, MakesLoad};
-    ghost use Rattle.sched_run.specs.Drawings.{HasLoadClasses, most_load};
+    ghost use Rattle.sched_run.specs.Drawings.{HasLoadClasses, most_load, CanLoad, CanDraw};
     ghost use Rattle.sched_run.specs.Played.{StopsIn};
     ghost use Rattle.sched_run.specs.Stages.{stage_of, arrivals_in, IsFresh, CanBegin, Makes, Stops};
-    ghost use Rattle.tap_core.specs.Watching.{sight_of, AreNoMore};
+    ghost use Rattle.tap_core.specs.Watching.{sight_of};
 
     /// Makes the next drawn event and records it.
     fn play_drawn<K: Sink, T: Tap>(
@@ -36,11 +36,8 @@ impl<'a, C: Scheduler + Drop, N: NodeNames, W: DepartureRecorder> Run<'a, C, N, 
         requires set { IsSet C.Scheduler W.Recorder N.policy self.old }
         requires stands { Stand C.Scheduler self.old under.old (λ s.
             IsHeldBelow drawing.old.number s.held) }
-        requires classes { HasLoadClasses (C.policy self.old.scheduler) }
-        requires early { drawing.old.moment < 2 ^ 61 }
-        requires few { drawing.old.number < 2 ^ 61 }
-        requires departures { C.departures self.old.scheduler < 2 ^ 61 }
-        requires room { HasRoomForOne C.Scheduler self.old }
+        requires draws { CanDraw (C.policy self.old.scheduler) drawing.old }
+        requires room { HasRoomForEither C.Scheduler self.old }
 
         ensures ok { OnOk result ((given : ℕ) → drawing.old.number ≡ given + 1 →
             Makes C.Scheduler (heard_without W.Recorder) (C.policy self.old.scheduler) (load_event drawing.old ∷ [])
@@ -52,10 +49,9 @@ impl<'a, C: Scheduler + Drop, N: NodeNames, W: DepartureRecorder> Run<'a, C, N, 
             (stage_of self.old under.old (K.written sink.old) given
             (sight_of T.kind_of T.state_of watch.old)) self.new.scheduler under.new (K.written sink.new)) }
         ensures next { drawing.new ≡ load_next drawing.old }
-        ensures keeps { KeepsRun C.Scheduler W.Recorder K.Sink result self.old self.new sink.old
-            sink.new }
-        ensures fewer { AreNoMore (sight_of T.kind_of T.state_of watch.old)
-            (sight_of T.kind_of T.state_of watch.new) }
+        ensures keeps { KeepsShown C.Scheduler W.Recorder K.Sink result self.old self.new sink.old
+            sink.new
+            (sight_of T.kind_of T.state_of watch.old) (sight_of T.kind_of T.state_of watch.new) }
     {
         match drawing.draw() {
             Some(packet) => self.make_arrival(under, sink, watch, &packet, &[]),
@@ -77,10 +73,9 @@ impl<'a, C: Scheduler + Drop, N: NodeNames, W: DepartureRecorder> Run<'a, C, N, 
     ) -> Result<(), Stop>
         requires set { IsSet C.Scheduler W.Recorder N.policy self.old }
         requires stands { Stand C.Scheduler self.old under.old (CanBegin 0) }
-        requires classes { HasLoadClasses (C.policy self.old.scheduler) }
+        requires loads { CanLoad (C.policy self.old.scheduler) count }
         requires room { HasRoomToBegin C.Scheduler self.old 0 }
         requires fresh { IsFresh self.old.tally }
-        requires short { count ≤ most_load }
 
         ensures ok { OnOk result (
             Makes C.Scheduler (heard_without W.Recorder) (C.policy self.old.scheduler) (load_events count (first_drawing seed))
@@ -91,10 +86,9 @@ impl<'a, C: Scheduler + Drop, N: NodeNames, W: DepartureRecorder> Run<'a, C, N, 
             Stops C.Scheduler (heard_without W.Recorder) (C.policy self.old.scheduler) (load_events count (first_drawing seed))
             (stage_of self.old under.old (K.written sink.old) 0
             (sight_of T.kind_of T.state_of watch.old)) self.new.scheduler under.new (K.written sink.new)) }
-        ensures keeps { KeepsRun C.Scheduler W.Recorder K.Sink result self.old self.new sink.old
-            sink.new }
-        ensures fewer { AreNoMore (sight_of T.kind_of T.state_of watch.old)
-            (sight_of T.kind_of T.state_of watch.new) }
+        ensures keeps { KeepsShown C.Scheduler W.Recorder K.Sink result self.old self.new sink.old
+            sink.new
+            (sight_of T.kind_of T.state_of watch.old) (sight_of T.kind_of T.state_of watch.new) }
     {
         let mut drawing = Drawing::new(seed);
         for _drawn in 0..count {
@@ -131,10 +125,9 @@ impl<'a, C: Scheduler + Drop, N: NodeNames, W: DepartureRecorder> Run<'a, C, N, 
             IsHeldBelow 1 s.held → StopsIn C.Scheduler (heard_without W.Recorder) (C.policy self.old.scheduler) 1
             (load_run (C.policy self.old.scheduler) seed count s) s
             self.old.scheduler under.old self.old.recorder (K.written sink.old) self.new.scheduler under.new (K.written sink.new))) }
-        ensures keeps { KeepsRun C.Scheduler W.Recorder K.Sink result self.old self.new sink.old
-            sink.new }
-        ensures fewer { AreNoMore (sight_of T.kind_of T.state_of watch.old)
-            (sight_of T.kind_of T.state_of watch.new) }
+        ensures keeps { KeepsShown C.Scheduler W.Recorder K.Sink result self.old self.new sink.old
+            sink.new
+            (sight_of T.kind_of T.state_of watch.old) (sight_of T.kind_of T.state_of watch.new) }
     {
         let first = self.scheduler.held();
         self.tally = Tally::new();

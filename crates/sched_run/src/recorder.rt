@@ -1,7 +1,5 @@
 //! The trait for recording the outcomes of a run.
-ghost use Rattle.std.specs.Prelude.{◌≡◌, ◌≤◌, ℕ, Bool, Option, List, [], ◌∷◌, length, IfErr, OnOk, OnErr};
-ghost use Rattle.outside_core.specs.Faults.{Rose};
-ghost use Rattle.outside_core.specs.Kept.{KeepsSink, HasSinkCause};
+ghost use Rattle.std.specs.Prelude.{◌≡◌, ◌≤◌, ℕ, Bool, Option, List, [], ◌∷◌, length, OnOk, OnErr};
 ghost use Rattle.tree_defs.specs.Tree.{Address};
 ghost use Rattle.pcap_defs.specs.Record.{most_captured};
 ghost use Rattle.packet_defs.specs.declared.packet.Packet.{Packet};
@@ -9,7 +7,7 @@ ghost use Rattle.policy_defs.specs.Policy.{Policy, name_at};
 ghost use Rattle.sched_defs.specs.Events as events;
 ghost use Rattle.sched_defs.specs.Events.{Outcome};
 ghost use Rattle.sched_defs.specs.Packets.{Captured};
-ghost use Rattle.sched_run.specs.Recording.{AreJoined};
+ghost use Rattle.sched_run.specs.Recording.{AreJoined, KeepsRecord, KeepsArrival};
 ghost use Rattle.sched_run.specs.Shown.{gone};
 
 use outside_core::{Sink, Stop};
@@ -58,11 +56,8 @@ pub trait Recorder: Drop {
             leaf.now ≡ name_at policy a →
             cuts bytes self.old (K.written sink.old) policy event (events.Arrived packet.now a ranks.now ∷ [])
             (K.written sink.new)) }
-        ensures kept { KeepsSink K.written K.faults sink.old sink.new }
-        ensures cause { IfErr result (λ stop. HasSinkCause stop K.faults sink.old sink.new) }
-        ensures over { OnOk result (over self.new ≡ over self.old) }
-        ensures live { OnOk result (live self.new) }
-        ensures dead { OnErr result (live self.new → ⊥) };
+        ensures keeps { KeepsArrival live K.Sink result self.new sink.old sink.new }
+        ensures over { OnOk result (over self.new ≡ over self.old) };
 
     /// Records a packet that was dropped at the leaf of this name.
     fn dropped<K: Sink>(
@@ -82,11 +77,8 @@ pub trait Recorder: Drop {
         ensures cut { OnErr result ((bytes : Captured) (policy : Policy) (a : Address) →
             leaf.now ≡ name_at policy a →
             cuts bytes self.old (K.written sink.old) policy event (events.Dropped packet.now a ∷ []) (K.written sink.new)) }
-        ensures kept { KeepsSink K.written K.faults sink.old sink.new }
-        ensures cause { OnErr result (Rose (K.faults sink.old) (K.faults sink.new)) }
-        ensures over { OnOk result (over self.new ≡ over self.old) }
-        ensures live { OnOk result (live self.new) }
-        ensures dead { OnErr result (live self.new → ⊥) };
+        ensures keeps { KeepsRecord live K.Sink result self.new sink.old sink.new }
+        ensures over { OnOk result (over self.new ≡ over self.old) };
 
     /// Records a packet that departed from the leaf of this name. The ranks are those popped, from
     /// the root down. `start` is the timestamp at which the departure starts, in nanoseconds, if a
@@ -113,10 +105,7 @@ pub trait Recorder: Drop {
             departed.now ≡ gone policy p a → leaf.now ≡ name_at policy a →
             cuts bytes self.old (K.written sink.old) policy event (events.Departed p a ranks.now start ∷ [])
             (K.written sink.new)) }
-        ensures kept { KeepsSink K.written K.faults sink.old sink.new }
-        ensures cause { OnErr result (Rose (K.faults sink.old) (K.faults sink.new)) }
-        ensures live { OnOk result (live self.new) }
-        ensures dead { OnErr result (live self.new → ⊥) };
+        ensures keeps { KeepsRecord live K.Sink result self.new sink.old sink.new };
 
     /// Records a departure from an empty scheduler.
     fn empty<K: Sink>(&mut self, sink: &mut K, event: u64) -> Result<(), WriteFault>
@@ -126,10 +115,7 @@ pub trait Recorder: Drop {
             records bytes self.old (K.written sink.old) policy event (events.Empty ∷ []) self.new (K.written sink.new)) }
         ensures cut { OnErr result ((bytes : Captured) (policy : Policy) →
             cuts bytes self.old (K.written sink.old) policy event (events.Empty ∷ []) (K.written sink.new)) }
-        ensures kept { KeepsSink K.written K.faults sink.old sink.new }
-        ensures cause { OnErr result (Rose (K.faults sink.old) (K.faults sink.new)) }
-        ensures live { OnOk result (live self.new) }
-        ensures dead { OnErr result (live self.new → ⊥) };
+        ensures keeps { KeepsRecord live K.Sink result self.new sink.old sink.new };
 
     /// Returns whether nothing more can be recorded, so that the run has to end.
     fn over(&self) -> bool

@@ -2,8 +2,7 @@
 ghost use Rattle.std.specs.Prelude.{IsTrue, false};
 ghost use Rattle.sched_run.specs.Lines.{adds_lines, cuts_lines, lines_are_joined};
 
-use crate::departure::{Departure, DepartureRecorder};
-use crate::lines::{depart_line, record_departure};
+use crate::departure::{Departure, DepartureRecorder, depart_line, record_departure};
 use crate::recorder::Recorder;
 use outside_core::{Sink, Stop};
 use packet_defs::{Departed, Packet};
@@ -35,6 +34,7 @@ impl Recorder for Report {
         Ok(())
     }
 
+    #[inline(never)]
     fn dropped<K: Sink>(
         &mut self,
         sink: &mut K,
@@ -58,7 +58,7 @@ impl Recorder for Report {
         self.departed(sink, event, departed.packet, leaf, ranks, start)
     }
 
-    #[inline(always)]
+    #[inline(never)]
     fn empty<K: Sink>(&mut self, sink: &mut K, event: u64) -> Result<(), WriteFault> {
         self.empty(sink, event)
     }

@@ -1,26 +1,271 @@
-//! The events of a step of a script.
+//! The events of a step of a script, and their records.
 ghost use Rattle.std.specs.Prelude.{◌≡◌};
 
-use crate::departure::DepartureRecorder;
+use crate::departure::{Departure, DepartureRecorder};
 use crate::run::Run;
 use events_core::Step;
-use outside_core::{Sink, Stop};
+use outside_core::{ReadError, Sink, Stop};
+use packet_defs::{BLANK, Departed, Packet};
 use policy_defs::NodeNames;
-use sched_core::Scheduler;
+use sched_core::{Arrival, Scheduler};
 use sched_defs::{Ending, Packets};
-use tap_core::{Tap, Watching};
+use tap_core::{Dropped, Tap, Watching};
 
 impl<'a, C: Scheduler + Drop, N: NodeNames, W: DepartureRecorder> Run<'a, C, N, W> {
-    ghost use Rattle.std.specs.Prelude.{◌≡◌, ◌≤◌, ◌<◌, ◌+◌, ◌^◌, ℕ, replicate, None, IfOk, IfNone, OnOk, OnErr};
-    ghost use Rattle.sched_run.specs.Heard.{heard_anyway, heard};
-    ghost use Rattle.sched_run.specs.Frames.{IsSet, Stand, Feeds, KeepsRun, KeepsPlay, IsFurther};
-    ghost use Rattle.events_core.specs.Script.{most_count};
-    ghost use Rattle.sched_defs.specs.Events.{Depart};
-    ghost use Rattle.sched_defs.specs.Script.{step_events};
-    ghost use Rattle.sched_run.specs.Stages.{stage_of, IsReady, HasRoomFor, Makes, Stops};
-    ghost use Rattle.sched_run.specs.Steps.{step_of, asked_by};
-    ghost use Rattle.sched_run.specs.Turns.{Turns, StopsAmid};
-    ghost use Rattle.tap_core.specs.Watching.{sight_of, AreNoMore};
+    ghost use Rattle.std.specs.Prelude.{◌≡◌, ◌≤◌, ◌+◌, ℕ, [], ◌∷◌, length, replicate, None, IfOk, IfNone, OnOk, OnErr};
+    ghost use Rattle.pcap_defs.specs.Record.{most_captured};
+    ghost use Rattle.sched_defs.specs.Events.{Arrive, Depart, CanArrive};
+    ghost use Rattle.sched_defs.specs.Numbered.{IsHeldBelow};
+    ghost use Rattle.sched_defs.specs.Script.{Rest, step_events};
+    ghost use Rattle.sched_core.specs.Departures.{next_departed};
+    ghost use Rattle.sched_run.specs.Frames.{IsSet, Stand, FromAll, Feeds, HasRoomForOne, HasRoomToDepart, HasRoomForStep, CountsArrival, CountsDepartures, KeepsShown, KeepsPlay, IsFurther};
+    ghost use Rattle.sched_run.specs.Heard.{heard_anyway, heard, heard_with};
+    ghost use Rattle.sched_run.specs.Stages.{stage_of, IsReady, HasRoomFor, AreNext, Makes, Stops};
+    ghost use Rattle.sched_run.specs.Steps.{step_of};
+    ghost use Rattle.sched_run.specs.Turns.{Arrives, ArrivalsStop, Turns, StopsAmid, GoesOn};
+    ghost use Rattle.tap_core.specs.Watching.{sight_of};
+
+    /// Makes the arrival of a packet with these captured bytes, records and counts it, and shows it
+    /// to the taps that watch if it was dropped.
+    #[inline(always)]
+    pub(crate) fn make_arrival<K: Sink, T: Tap>(
+        &mut self,
+        under: &mut C::Under,
+        sink: &mut K,
+        watch: &mut Watching<T>,
+        packet: &Packet,
+        captured: &[u8],
+    ) -> Result<(), Stop>
+        requires short { length captured.now ≤ most_captured }
+        requires set { IsSet C.Scheduler W.Recorder N.policy self.old }
+        requires stands { Stand C.Scheduler self.old under.old (λ s.
+            CanArrive (C.policy self.old.scheduler) s packet.now) }
+        requires room { HasRoomForOne C.Scheduler self.old }
+
+        ensures ok { OnOk result ((given : ℕ) → AreNext (C.policy self.old.scheduler) given
+            (packet.now ∷ []) →
+            Makes C.Scheduler (heard_with W.Recorder packet.now captured.now) (C.policy self.old.scheduler) (Arrive packet.now ∷ [])
+            (stage_of self.old under.old (K.written sink.old) given (sight_of T.kind_of T.state_of watch.old))
+            (stage_of self.new under.new (K.written sink.new) (given + 1) (sight_of T.kind_of T.state_of watch.new))) }
+        ensures err { OnErr result ((given : ℕ) → AreNext (C.policy self.old.scheduler) given
+            (packet.now ∷ []) →
+            Stops C.Scheduler (heard_with W.Recorder packet.now captured.now) (C.policy self.old.scheduler) (Arrive packet.now ∷ [])
+            (stage_of self.old under.old (K.written sink.old) given
+            (sight_of T.kind_of T.state_of watch.old)) self.new.scheduler under.new (K.written sink.new)) }
+        ensures counts { CountsArrival W.over result self.old self.new }
+        ensures keeps { KeepsShown C.Scheduler W.Recorder K.Sink result self.old self.new sink.old
+            sink.new
+            (sight_of T.kind_of T.state_of watch.old) (sight_of T.kind_of T.state_of watch.new) }
+    {
+        let event = self.tally.event();
+        let arrival = self.scheduler.arrive(under, packet, &mut self.trace)?;
+        match arrival {
+            Arrival::Pushed(leaf) => {
+                let name = self.names.name(leaf);
+                self.recorder
+                    .arrived(sink, event, packet, captured, name, self.trace.ranks())?;
+                self.tally.came += 1;
+            }
+            Arrival::Dropped(leaf) => {
+                let name = self.names.name(leaf);
+                self.recorder.dropped(sink, event, packet, name)?;
+                self.tally.came += 1;
+                self.tally.dropped += 1;
+                watch.dropped(&Dropped {
+                    packet: packet.number,
+                    class: packet.class,
+                    leaf,
+                    len: packet.len,
+                });
+            }
+        }
+        Ok(())
+    }
+
+    /// Makes the arrival of the next packet and records it. Returns how the run ends if no packet
+    /// is left.
+    #[inline(always)]
+    pub(crate) fn arrive_next<P: Packets, K: Sink, T: Tap>(
+        &mut self,
+        under: &mut C::Under,
+        sink: &mut K,
+        watch: &mut Watching<T>,
+        packets: &mut P,
+        source: &mut P::Source,
+    ) -> Result<Option<Ending>, Stop>
+        requires set { IsSet C.Scheduler W.Recorder N.policy self.old }
+        requires feeds { Feeds C.Scheduler P.Packets self.old packets.old source.old }
+        requires stands { Stand C.Scheduler self.old under.old (λ s.
+            IsHeldBelow (P.given packets.old + 1) s.held) }
+        requires counts { HasRoomFor C.Scheduler self.old (P.given packets.old) }
+
+        ensures ok { IfOk result (λ e.
+            Arrives C.Scheduler (heard W.Recorder (P.captures packets.old source.old)) (C.policy self.old.scheduler) 1 e
+            (P.left packets.old source.old) (P.left packets.new source.new)
+            (stage_of self.old under.old (K.written sink.old) (P.given packets.old)
+            (sight_of T.kind_of T.state_of watch.old))
+            (stage_of self.new under.new (K.written sink.new) (P.given packets.new)
+            (sight_of T.kind_of T.state_of watch.new))) }
+        ensures err { OnErr result (
+            ArrivalsStop C.Scheduler (heard W.Recorder (P.captures packets.old source.old)) (C.policy self.old.scheduler) 1
+            (P.left packets.old source.old)
+            (stage_of self.old under.old (K.written sink.old) (P.given packets.old)
+            (sight_of T.kind_of T.state_of watch.old)) self.new.scheduler under.new (K.written sink.new)) }
+        ensures keeps { KeepsPlay C.Scheduler W.Recorder P.Packets K.Sink result self.old self.new
+            packets.old packets.new source.old source.new sink.old sink.new
+            (sight_of T.kind_of T.state_of watch.old) (sight_of T.kind_of T.state_of watch.new) }
+        ensures further { IfOk result (λ e. GoesOn e (
+            IsFurther P.Packets packets.old packets.new source.old source.new self.old.tally self.new.tally)) }
+    {
+        let mut packet = BLANK;
+        match packets.next(source, &mut packet) {
+            Ok(true) => {
+                self.make_arrival(under, sink, watch, &packet, packets.captured())?;
+                Ok(None)
+            }
+            Ok(false) => Ok(Some(Ending::PastLast(self.tally.event()))),
+            Err(ReadError::Fault(code, place)) => Ok(Some(Ending::BadCapture(code, place))),
+            Err(ReadError::Source) => Err(Stop::Source),
+            Err(ReadError::Memory) => Err(Stop::Memory),
+        }
+    }
+
+    /// Makes the arrivals of the next `count` packets and records each. Returns how the run ends if
+    /// fewer are left.
+    pub(crate) fn arrive_some<P: Packets, K: Sink, T: Tap>(
+        &mut self,
+        under: &mut C::Under,
+        sink: &mut K,
+        watch: &mut Watching<T>,
+        packets: &mut P,
+        source: &mut P::Source,
+        count: u64,
+    ) -> Result<Option<Ending>, Stop>
+        requires set { IsSet C.Scheduler W.Recorder N.policy self.old }
+        requires feeds { Feeds C.Scheduler P.Packets self.old packets.old source.old }
+        requires stands { Stand C.Scheduler self.old under.old (λ s.
+            IsHeldBelow (P.given packets.old + 1) s.held) }
+        requires counts { HasRoomFor C.Scheduler self.old (P.given packets.old) }
+
+        ensures ok { IfOk result (λ e.
+            Arrives C.Scheduler (heard W.Recorder (P.captures packets.old source.old)) (C.policy self.old.scheduler) count e
+            (P.left packets.old source.old) (P.left packets.new source.new)
+            (stage_of self.old under.old (K.written sink.old) (P.given packets.old)
+            (sight_of T.kind_of T.state_of watch.old))
+            (stage_of self.new under.new (K.written sink.new) (P.given packets.new)
+            (sight_of T.kind_of T.state_of watch.new))) }
+        ensures err { OnErr result (
+            ArrivalsStop C.Scheduler (heard W.Recorder (P.captures packets.old source.old)) (C.policy self.old.scheduler) count
+            (P.left packets.old source.old)
+            (stage_of self.old under.old (K.written sink.old) (P.given packets.old)
+            (sight_of T.kind_of T.state_of watch.old)) self.new.scheduler under.new (K.written sink.new)) }
+        ensures keeps { KeepsPlay C.Scheduler W.Recorder P.Packets K.Sink result self.old self.new
+            packets.old packets.new source.old source.new sink.old sink.new
+            (sight_of T.kind_of T.state_of watch.old) (sight_of T.kind_of T.state_of watch.new) }
+        ensures further { IfOk result (λ e. IfNone e (
+            IsFurther P.Packets packets.old packets.new source.old source.new self.old.tally self.new.tally)) }
+    {
+        for _sent in 0..count {
+            let ending = self.arrive_next(under, sink, watch, packets, source)?;
+            if ending.is_some() {
+                return Ok(ending);
+            }
+        }
+        Ok(None)
+    }
+
+    /// Makes the arrivals of all packets that are left and records each. Returns how the capture's
+    /// fault ends the run, if it has one.
+    pub(crate) fn arrive_rest<P: Packets, K: Sink, T: Tap>(
+        &mut self,
+        under: &mut C::Under,
+        sink: &mut K,
+        watch: &mut Watching<T>,
+        packets: &mut P,
+        source: &mut P::Source,
+    ) -> Result<Option<Ending>, Stop>
+        requires set { IsSet C.Scheduler W.Recorder N.policy self.old }
+        requires feeds { Feeds C.Scheduler P.Packets self.old packets.old source.old }
+        requires stands { Stand C.Scheduler self.old under.old (λ s.
+            IsHeldBelow (P.given packets.old + 1) s.held) }
+        requires counts { HasRoomFor C.Scheduler self.old (P.given packets.old) }
+
+        ensures ok { IfOk result (λ e.
+            Turns C.Scheduler (heard W.Recorder (P.captures packets.old source.old)) (C.policy self.old.scheduler) Rest e
+            (P.left packets.old source.old) (P.left packets.new source.new)
+            (stage_of self.old under.old (K.written sink.old) (P.given packets.old)
+            (sight_of T.kind_of T.state_of watch.old))
+            (stage_of self.new under.new (K.written sink.new) (P.given packets.new)
+            (sight_of T.kind_of T.state_of watch.new))) }
+        ensures err { OnErr result (
+            StopsAmid C.Scheduler (heard W.Recorder (P.captures packets.old source.old)) (C.policy self.old.scheduler)
+            (λ l s. step_events Rest l.packets s)
+            (P.left packets.old source.old)
+            (stage_of self.old under.old (K.written sink.old) (P.given packets.old)
+            (sight_of T.kind_of T.state_of watch.old)) self.new.scheduler under.new (K.written sink.new)) }
+        ensures keeps { KeepsPlay C.Scheduler W.Recorder P.Packets K.Sink result self.old self.new
+            packets.old packets.new source.old source.new sink.old sink.new
+            (sight_of T.kind_of T.state_of watch.old) (sight_of T.kind_of T.state_of watch.new) }
+        ensures further { IfOk result (λ e. IfNone e (
+            IsFurther P.Packets packets.old packets.new source.old source.new self.old.tally self.new.tally)) }
+    {
+        loop {
+            let ending = self.arrive_next(under, sink, watch, packets, source)?;
+            if let Some(ending) = ending {
+                return Ok(ending.at_fault());
+            }
+        }
+    }
+
+    /// Makes a departure, records and counts it, and shows it to the taps that watch. `start` is
+    /// its timestamp in nanoseconds if a link paces it. The error may mean out of memory for the
+    /// line of a finished tap.
+    #[inline(always)]
+    pub(crate) fn depart_next<K: Sink, T: Tap>(
+        &mut self,
+        under: &mut C::Under,
+        sink: &mut K,
+        watch: &mut Watching<T>,
+        start: Option<u128>,
+    ) -> Result<Option<Departed>, Stop>
+        requires set { IsSet C.Scheduler W.Recorder N.policy self.old }
+        requires stands { Stand C.Scheduler self.old under.old (λ _. Unit {0}) }
+        requires room { HasRoomToDepart C.Scheduler self.old 1 }
+
+        ensures ok { OnOk result ((given : ℕ) →
+            Makes C.Scheduler (heard_anyway W.Recorder) (C.policy self.old.scheduler) (Depart start ∷ [])
+            (stage_of self.old under.old (K.written sink.old) given (sight_of T.kind_of T.state_of watch.old))
+            (stage_of self.new under.new (K.written sink.new) given (sight_of T.kind_of T.state_of watch.new))) }
+        ensures err { OnErr result ((given : ℕ) →
+            Stops C.Scheduler (heard_anyway W.Recorder) (C.policy self.old.scheduler) (Depart start ∷ [])
+            (stage_of self.old under.old (K.written sink.old) given
+            (sight_of T.kind_of T.state_of watch.old)) self.new.scheduler under.new (K.written sink.new)) }
+        ensures value { IfOk result (λ d. FromAll C.Scheduler self.old under.old (λ s.
+            d ≡ next_departed (C.policy self.old.scheduler) s)) }
+        ensures counts { CountsDepartures (λ n. n ≡ self.old.tally.asked + 1) result self.old.tally
+            self.new.tally }
+        ensures keeps { KeepsShown C.Scheduler W.Recorder K.Sink result self.old self.new sink.old
+            sink.new
+            (sight_of T.kind_of T.state_of watch.old) (sight_of T.kind_of T.state_of watch.new) }
+    {
+        let event = self.tally.event();
+        let departed = self.recorder.depart(
+            self.names,
+            &mut self.scheduler,
+            under,
+            &mut self.trace,
+            sink,
+            Departure { event, start },
+        )?;
+        self.tally.asked += 1;
+        if watch.is_idle() {
+            return Ok(departed);
+        }
+        if let Some(left) = departed {
+            watch.departed(&left)?;
+        }
+        Ok(departed)
+    }
 
     /// Makes `count` departures and records each.
     pub(crate) fn depart_some<K: Sink, T: Tap>(
@@ -32,8 +277,7 @@ impl<'a, C: Scheduler + Drop, N: NodeNames, W: DepartureRecorder> Run<'a, C, N, 
     ) -> Result<(), Stop>
         requires set { IsSet C.Scheduler W.Recorder N.policy self.old }
         requires stands { Stand C.Scheduler self.old under.old (λ _. Unit {0}) }
-        requires few { C.departures self.old.scheduler + count < 2 ^ 61 }
-        requires events { self.old.tally.came + self.old.tally.asked + count < 2 ^ 61 }
+        requires room { HasRoomToDepart C.Scheduler self.old count }
 
         ensures ok { OnOk result ((given : ℕ) →
             Makes C.Scheduler (heard_anyway W.Recorder) (C.policy self.old.scheduler) (replicate count (Depart None))
@@ -44,10 +288,9 @@ impl<'a, C: Scheduler + Drop, N: NodeNames, W: DepartureRecorder> Run<'a, C, N, 
             (stage_of self.old under.old (K.written sink.old) given
             (sight_of T.kind_of T.state_of watch.old)) self.new.scheduler under.new (K.written sink.new)) }
         ensures came { self.new.tally.came ≡ self.old.tally.came }
-        ensures keeps { KeepsRun C.Scheduler W.Recorder K.Sink result self.old self.new sink.old
-            sink.new }
-        ensures fewer { AreNoMore (sight_of T.kind_of T.state_of watch.old)
-            (sight_of T.kind_of T.state_of watch.new) }
+        ensures keeps { KeepsShown C.Scheduler W.Recorder K.Sink result self.old self.new sink.old
+            sink.new
+            (sight_of T.kind_of T.state_of watch.old) (sight_of T.kind_of T.state_of watch.new) }
     {
         for _made in 0..count {
             self.depart_next(under, sink, watch, None)?;
@@ -69,8 +312,7 @@ impl<'a, C: Scheduler + Drop, N: NodeNames, W: DepartureRecorder> Run<'a, C, N, 
         requires feeds { Feeds C.Scheduler P.Packets self.old packets.old source.old }
         requires stands { Stand C.Scheduler self.old under.old
             (IsReady (P.given packets.old) self.old.tally) }
-        requires counts { HasRoomFor C.Scheduler self.old (P.given packets.old) }
-        requires short { asked_by (step_of step) ≤ most_count }
+        requires counts { HasRoomForStep C.Scheduler self.old (P.given packets.old) (step_of step) }
 
         ensures ok { IfOk result (λ e.
             Turns C.Scheduler (heard W.Recorder (P.captures packets.old source.old)) (C.policy self.old.scheduler) (step_of step) e

@@ -1,9 +1,7 @@
 //! The count of a run's events so far, and its totals.
 ghost use Rattle.std.specs.Prelude.{◌≡◌, ◌≤◌, ◌<◌, ◌+◌, ◌^◌};
-ghost use Rattle.sched_run.specs.Stages.{event_of, drops_of, IsFresh};
+ghost use Rattle.sched_run.specs.Stages.{event_of, IsFresh};
 ghost use Rattle.sched_run.specs.Totals.{HasTotals, AreTotals};
-
-use sched_core::Arrival;
 
 /// The count of a run's events so far.
 #[derive(Clone, Copy, Debug)]
@@ -47,22 +45,6 @@ impl Tally {
         ensures { result ≡ event_of self }
     {
         self.came + self.asked + 1
-    }
-
-    /// Counts one more packet, and its drop if it was dropped.
-    #[inline(always)]
-    pub(crate) fn count(&mut self, arrival: Arrival)
-        requires few { self.old.came < 2 ^ 63 }
-        requires some { self.old.dropped ≤ self.old.came }
-
-        ensures came { self.new.came ≡ self.old.came + 1 }
-        ensures dropped { self.new.dropped ≡ self.old.dropped + drops_of arrival }
-        ensures asked { self.new.asked ≡ self.old.asked }
-    {
-        self.came += 1;
-        if let Arrival::Dropped(_) = arrival {
-            self.dropped += 1;
-        }
     }
 
     /// Returns the totals of a run that began with `first` packets queued and has `held` queued

@@ -63,7 +63,7 @@ impl<T: Tap> Watching<T> {
 
     /// Passes a departure to each tap. The error is out of memory for the line of a tap that is
     /// done.
-    #[inline(always)]
+    #[inline(never)]
     pub fn departed(&mut self, packet: &Departed) -> Result<(), AllocError>
         ensures shown { OnOk result (Shows (departed packet.now ∷ [])
             (sight_of T.kind_of T.state_of self.old) (sight_of T.kind_of T.state_of self.new)) }
@@ -74,6 +74,7 @@ impl<T: Tap> Watching<T> {
     }
 
     /// Passes a drop to each tap. Allocates no memory.
+    #[inline(never)]
     pub fn dropped(&mut self, packet: &Dropped)
         ensures shown { Shows (dropped packet.now ∷ [])
             (sight_of T.kind_of T.state_of self.old) (sight_of T.kind_of T.state_of self.new) }

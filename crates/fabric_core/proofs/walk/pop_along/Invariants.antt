@@ -5,7 +5,7 @@ use Rattle.fabric_core.proofs.walk.pop_along.Given as goal
 
 abbrev pub invariant-loop-level : goal.invariant-loop-level
 invariant-loop-level g l = record {
-  popping : IsPopping g.Q.NodeQueue l.arities l.initial.queues l.queues l.digits l.ranks l.level l.spot.begin l.spot.width l.spot.place;
+  popping : IsPopping g.Q.NodeQueue l.arities l.initial.queues l.queues l.digits l.ranks l.level l.begin l.width l.place;
   kept : IsRoomier (map g.Q.NodeQueue.spare l.initial.queues) (map g.Q.NodeQueue.spare l.queues);
   flows : map g.Q.NodeQueue.flows l.queues ≡ map g.Q.NodeQueue.flows l.initial.queues;
 }

@@ -1,4 +1,4 @@
-use Rattle.std.proofs.Common.{◌≡◌, ◌∙◌, sym, ap, subst, List, ℕ, ◌++◌, ◌+◌, ◌∷◌, [], drop, get_or, max}
+use Rattle.std.proofs.Common.{◌≡◌, ◌∙◌, sym, ap, subst, List, ℕ, ◌++◌, ◌+◌, ◌∷◌, [], drop, get_or}
 use Rattle.std.proofs.lemmas.List.{drop_all, append-nil}
 use Rattle.std.specs.List.Sorted.{IsNonDecreasingBy}
 use Rattle.policy_text_defs.specs.declared.test.Range.{Range}

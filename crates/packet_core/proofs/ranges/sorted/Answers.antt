@@ -1,4 +1,4 @@
-use Rattle.std.proofs.Common.{rules, sym, subst, List}
+use Rattle.std.proofs.Common.{rules, subst, List}
 use Rattle.std.specs.List.Sorted.{IsPermutation}
 use Rattle.std.proofs.lemmas.List.Sorted.{IsNonDecreasingBy-from_sort_by_key}
 use Rattle.policy_text_defs.specs.declared.test.Range.{Range}

@@ -1,5 +1,4 @@
-use Rattle.packet_core.proofs.Prelude.{◌∙◌, sym, ap, arith, List, Written, passes_all, tests_of, belongs}
-use Rattle.std.specs.List.{list_any}
+use Rattle.packet_core.proofs.Prelude.{◌∙◌, sym, ap, arith, List, Written, tests_of, belongs}
 use Rattle.std.proofs.lemmas.Bool.{eqb-false}
 use Rattle.packet_core.proofs.Prepare.{belongs-some}
 use Rattle.packet_core.proofs.unprepared.belongs.Goals as goal

@@ -38,7 +38,7 @@ returns-in_err-finish-clause-part g c =
     let packets = c.args.packets.now in
     let file = g.S.Shelf.left c.args.shelf.now in
     let whole = forwards g.C.Scheduler _ (captures_of packets file) (records_heard (captures_of packets file)) (record { all = λ policy event os f h a b is bytes known. is bytes known; part = λ policy event os f a b is bytes known. is bytes known })
-    c.args.policy.now.policy (rw r.start.policy_is at r.start.set.accepted) c.args.rate _ r.start.stands r.unused.nothing (left_of packets file) (there packets file) c.in_ok-ending.ending _ c.in_ok-ending.ensures.over (rw r.start.policy_is at c.in_ok-ending.ensures.ok) in
+    c.args.policy.now.policy (rw r.start.policy_is at r.start.set.accepted) c.args.rate _ r.start.stands r.unused.nothing (left_of packets file) (there packets file) c.in_ok-ending.ending _ c.in_ok-ending.ensures.ends.over (rw r.start.policy_is at c.in_ok-ending.ensures.ok) in
     rw p.1 (IfSome_then (left_of packets file) whole (λ l told captured known. cut_end _ _ _ _ _ _ r.unused.none_gathered c.play_link.ensures.keeps.kept_sink.begins c.in_err-finish.ensures.kept.begins (told.records captured known) c.in_err-finish.ensures.cut))
 
 pub returns-in_err-finish-clause-amid : goal.returns-in_err-finish-clause-amid
@@ -48,7 +48,7 @@ returns-in_err-finish-clause-amid g c =
     let packets = c.args.packets.now in
     let file = g.S.Shelf.left c.args.shelf.now in
     let whole = forwards g.C.Scheduler _ (captures_of packets file) (records_heard (captures_of packets file)) (record { all = λ policy event os f h a b is bytes known. is bytes known; part = λ policy event os f a b is bytes known. is bytes known })
-    c.args.policy.now.policy (rw r.start.policy_is at r.start.set.accepted) c.args.rate _ r.start.stands r.unused.nothing (left_of packets file) (there packets file) c.in_ok-ending.ending _ c.in_ok-ending.ensures.over (rw r.start.policy_is at c.in_ok-ending.ensures.ok) in
+    c.args.policy.now.policy (rw r.start.policy_is at r.start.set.accepted) c.args.rate _ r.start.stands r.unused.nothing (left_of packets file) (there packets file) c.in_ok-ending.ending _ c.in_ok-ending.ensures.ends.over (rw r.start.policy_is at c.in_ok-ending.ensures.ok) in
     rw p.1 (IfSome_then (left_of packets file) whole (λ l told. made_all g.C.Scheduler c.args.policy.now.policy (forward_events c.args.policy.now.policy c.args.rate l) told.made))
 
 pub returns-clause-ending : goal.returns-clause-ending
@@ -57,7 +57,7 @@ returns-clause-ending g c =
     let packets = c.args.packets.now in
     let file = g.S.Shelf.left c.args.shelf.now in
     let whole = forwards g.C.Scheduler _ (captures_of packets file) (records_heard (captures_of packets file)) (record { all = λ policy event os f h a b is bytes known. is bytes known; part = λ policy event os f a b is bytes known. is bytes known })
-    c.args.policy.now.policy (rw r.start.policy_is at r.start.set.accepted) c.args.rate _ r.start.stands r.unused.nothing (left_of packets file) (there packets file) c.in_ok-ending.ending _ c.in_ok-ending.ensures.over (rw r.start.policy_is at c.in_ok-ending.ensures.ok) in
+    c.args.policy.now.policy (rw r.start.policy_is at r.start.set.accepted) c.args.rate _ r.start.stands r.unused.nothing (left_of packets file) (there packets file) c.in_ok-ending.ending _ c.in_ok-ending.ensures.ends.over (rw r.start.policy_is at c.in_ok-ending.ensures.ok) in
     IfSome_then (left_of packets file) whole (λ l told link captured. c.ending_of.ensures ∙ ap forward_ending told.ends)
 
 pub returns-clause-text : goal.returns-clause-text
@@ -66,7 +66,7 @@ returns-clause-text g c =
     let packets = c.args.packets.now in
     let file = g.S.Shelf.left c.args.shelf.now in
     let whole = forwards g.C.Scheduler _ (captures_of packets file) (records_heard (captures_of packets file)) (record { all = λ policy event os f h a b is bytes known. is bytes known; part = λ policy event os f a b is bytes known. is bytes known })
-    c.args.policy.now.policy (rw r.start.policy_is at r.start.set.accepted) c.args.rate _ r.start.stands r.unused.nothing (left_of packets file) (there packets file) c.in_ok-ending.ending _ c.in_ok-ending.ensures.over (rw r.start.policy_is at c.in_ok-ending.ensures.ok) in
+    c.args.policy.now.policy (rw r.start.policy_is at r.start.set.accepted) c.args.rate _ r.start.stands r.unused.nothing (left_of packets file) (there packets file) c.in_ok-ending.ending _ c.in_ok-ending.ensures.ends.over (rw r.start.policy_is at c.in_ok-ending.ensures.ok) in
     IfSome_then (left_of packets file) whole (λ l told captured known. whole_end _ _ _ _ _ _ r.unused.none_gathered (told.records captured known) c.in_ok-finish.ensures.whole)
 
 pub returns-clause-state : goal.returns-clause-state
@@ -75,5 +75,5 @@ returns-clause-state g c =
     let packets = c.args.packets.now in
     let file = g.S.Shelf.left c.args.shelf.now in
     let whole = forwards g.C.Scheduler _ (captures_of packets file) (records_heard (captures_of packets file)) (record { all = λ policy event os f h a b is bytes known. is bytes known; part = λ policy event os f a b is bytes known. is bytes known })
-    c.args.policy.now.policy (rw r.start.policy_is at r.start.set.accepted) c.args.rate _ r.start.stands r.unused.nothing (left_of packets file) (there packets file) c.in_ok-ending.ending _ c.in_ok-ending.ensures.over (rw r.start.policy_is at c.in_ok-ending.ensures.ok) in
+    c.args.policy.now.policy (rw r.start.policy_is at r.start.set.accepted) c.args.rate _ r.start.stands r.unused.nothing (left_of packets file) (there packets file) c.in_ok-ending.ending _ c.in_ok-ending.ensures.ends.over (rw r.start.policy_is at c.in_ok-ending.ensures.ok) in
     IfSome_then (left_of packets file) whole (λ l told. told.made)

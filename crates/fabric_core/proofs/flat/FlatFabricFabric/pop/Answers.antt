@@ -1,5 +1,5 @@
-use Rattle.fabric_core.proofs.Prelude.{ℕ, arith, ◌≡◌, List, [], length, sym, ap, ◌∙◌, subst, refl, Some, true≢false, with_items_is, with_items, Pops, Contents, queues_at, array_pop, entries_of, pushes_of, Flat, flat_queues}
-use Rattle.fabric_core.proofs.FabricLaws.{popped_sound, popped_queues, root_within, root_queue}
+use Rattle.fabric_core.proofs.Prelude.{ℕ, arith, ◌≡◌, List, [], length, sym, ap, ◌∙◌, subst, refl, Some, true≢false, with_items_is, with_items, Pops, Contents, Queue, queues_at, array_pop, entries_of, pushes_of, Flat, flat_queues}
+use Rattle.fabric_core.proofs.FabricLaws.{no_entries, popped_sound, popped_queues, root_within, root_queue}
 use Rattle.fabric_core.proofs.flat.FlatFabricFabric.pop.Goals as goal
 
 pub index-requires : goal.index-requires
@@ -7,12 +7,12 @@ index-requires c =
     let f = c.self.inside in
     omega (arith, root_within (λ (q : Contents). q.entries) f.arities.items f.queues.items (pushes_of f.queues.items) f.pushed c.self.invariant, f.queues.ok.0)
 
-pub returns-then-is_empty-clause-none : goal.returns-then-is_empty-clause-none
-returns-then-is_empty-clause-none c =
+pub returns-then-len-eq0-clause-none : goal.returns-then-len-eq0-clause-none
+returns-then-len-eq0-clause-none c =
     let f = c.self.inside in
     let root : queues_at f.arities.items (entries_of f.queues.items) 0 1 0 [] ≡ c.index.result.now.entries
     = root_queue (λ (q : Contents). q.entries) f.arities.items f.queues.items (pushes_of f.queues.items) f.pushed c.index.result.now c.self.invariant ∙ ap (λ (z : Contents). z.entries) (sym c.index.ensures) in
-    let none : c.index.result.now.entries ≡ [] = c.is_empty.ensures.0 c.if-is_empty.true in
+    let none : c.index.result.now.entries ≡ [] = no_entries c.index.result.now.entries (sym c.len.ensures.length ∙ c.if-len-eq0.true) in
     ((λ _. sym (ap (λ (v : Flat). flat_queues v []) c.self.view_is) ∙ root ∙ none), (λ _. refl))
 
 pub pop_along-requires-clause-some : goal.pop_along-requires-clause-some
@@ -23,7 +23,7 @@ pop_along-requires-clause-some c none =
     let here : queues_at f.arities.items (entries_of f.queues.items) 0 1 0 [] ≡ []
     = sym (ap (λ (z : List ℕ). queues_at z (entries_of c.deref_mut.result.now) 0 1 0 []) c.deref.ensures.value
     ∙ ap (λ (z : List Contents). queues_at f.arities.items (entries_of z) 0 1 0 []) c.deref_mut.ensures.value) ∙ none in
-    true≢false (sym (c.is_empty.ensures.1 (sym root ∙ here)) ∙ c.if-is_empty.false)
+    c.if-len-eq0.false (c.len.ensures.length ∙ ap (λ (q : Queue). length q) (sym root ∙ here))
 
 pub invariant_of-self-2 : goal.invariant_of-self-2
 invariant_of-self-2 c =
@@ -42,7 +42,7 @@ returns-clause-none c =
     let root : queues_at f.arities.items (entries_of f.queues.items) 0 1 0 [] ≡ c.index.result.now.entries
     = root_queue (λ (q : Contents). q.entries) f.arities.items f.queues.items (pushes_of f.queues.items) f.pushed c.index.result.now c.self.invariant ∙ ap (λ (z : Contents). z.entries) (sym c.index.ensures) in (
       (λ no. absurd (true≢false no)),
-      (λ none. absurd (true≢false (sym (c.is_empty.ensures.1 (sym root ∙ ap (λ (v : Flat). flat_queues v []) c.self.view_is ∙ none)) ∙ c.if-is_empty.false))),
+      (λ none. absurd (c.if-len-eq0.false (c.len.ensures.length ∙ ap (λ (q : Queue). length q) (sym root ∙ ap (λ (v : Flat). flat_queues v []) c.self.view_is ∙ none)))),
     )
 
 pub returns-clause-taken : goal.returns-clause-taken

@@ -1,7 +1,7 @@
 use Rattle.std.specs.Option.{IfSome}
 use Rattle.std.proofs.Common.{true≢false, Vec, Global}
-use Rattle.packet_core.proofs.Prelude.{◌∙◌, ◌≡◌, sym, ap, arith, subst, length, List, Option, length-map, Written, classes_of, one_asks, AreBounds}
-use Rattle.packet_core.specs.declared.prepared.Prepared.{Prepared}
+use Rattle.packet_core.proofs.Prelude.{◌∙◌, sym, ap, arith, subst, length, List, Option, length-map, Written, classes_of, one_asks, AreBounds}
+use Rattle.packet_core.specs.declared.bounds.Prepared.{Prepared}
 use Rattle.packet_core.proofs.Prepare.{are-same, are-tested}
 use Rattle.packet_core.proofs.FirstClass.{gives-each}
 use Rattle.packet_core.proofs.classifier.Classifier.new.Goals as goal

@@ -1,8 +1,8 @@
-use Rattle.std.proofs.Common.{◌≡◌, ◌∙◌, ap, ℕ, List}
+use Rattle.std.proofs.Common.{◌∙◌, ap, List}
 use Rattle.std.proofs.lemmas.Result.{IfOk-weaker}
 use Rattle.policy_text_defs.specs.declared.test.Range.{Range}
 use Rattle.packet_defs.specs.Test.{is_among}
-use Rattle.packet_core.specs.Ranges.{low, values}
+use Rattle.packet_core.specs.Ranges.{values}
 use Rattle.packet_core.proofs.RangeLaws.{among-permuted}
 use Rattle.packet_core.proofs.ranges.Ranges.new.Goals as goal
 

@@ -6,8 +6,10 @@ use Rattle.report_core.proofs.line.Line.arrival.Goals as goal
 pub returns-clause-text : goal.returns-clause-text
 returns-clause-text c =
     let ranks = ranks_text c.args.ranks.now in
-    c.put_byte.ensures.text
-    ∙ ap (λ s. s ++ 10 ∷ []) (c.put_leaf-end.ensures.text
-    ∙ ap (λ s. s ++ 32 ∷ [] ++ c.args.leaf.now ++ 32 ∷ [] ++ ranks) (c.put-packet_end.ensures.text
-    ∙ ap (λ s. s ++ decimal c.args.packet) c.put_event-packet_at.ensures.text))
+    c.put_array.ensures.text
+    ∙ ap (λ s. s ++ 10 ∷ []) (c.put_ranks-end.ensures.text
+    ∙ ap (λ s. s ++ 32 ∷ [] ++ ranks) (c.put_name-leaf_end.ensures.text
+    ∙ ap (λ s. s ++ c.args.leaf.now) (c.put-leaf_at.ensures.text
+    ∙ ap (λ s. s ++ decimal c.args.packet ++ 32 ∷ []) (c.put-packet_at.ensures.text
+    ∙ ap (λ s. s ++ decimal c.args.event ++ 32 ∷ []) c.put_array-event_at.ensures.text))))
     ∙ five_words (take c.args.at c.args.line.now) (decimal c.args.event) (decimal c.args.packet) c.args.leaf.now ranks 97

@@ -30,17 +30,17 @@ returns-in-Ok-None-clause-none g c =
     let b = c.next_packet.new.self in
     let e = c.in-Ok-None.ensures in
     rw (c.next_packet.ensures.policy) (λ _. ends (resolved_of a) (given_by a) (given_by b) (contents_of a (g.S.Shelf.left c.args.source.now)) (contents_of b (g.S.Shelf.left c.next_packet.new.source))
-    (rw c.in-Ok-None.field-0-is at e.ended) (rw c.in-Ok-None.field-0-is at e.over))
+    (rw c.in-Ok-None.field-0-is at e.ended).at (rw c.in-Ok-None.field-0-is at e.ended).over)
 
 pub returns-in-Ok-None-clause-over : goal.returns-in-Ok-None-clause-over
 returns-in-Ok-None-clause-over g c =
     let b = c.next_packet.new.self in
-    λ _. is_over (resolved_of b) (given_by b) (contents_of b (g.S.Shelf.left c.next_packet.new.source)) (rw c.in-Ok-None.field-0-is at c.in-Ok-None.ensures.over)
+    λ _. is_over (resolved_of b) (given_by b) (contents_of b (g.S.Shelf.left c.next_packet.new.source)) (rw c.in-Ok-None.field-0-is at c.in-Ok-None.ensures.ended).over
 
 pub returns-in-Ok-None-clause-known : goal.returns-in-Ok-None-clause-known
 returns-in-Ok-None-clause-known g c =
     let b = c.next_packet.new.self in
-    none_known _ (given_by b) (contents_of b (g.S.Shelf.left c.next_packet.new.source)) (rw c.in-Ok-None.field-0-is at c.in-Ok-None.ensures.over)
+    none_known _ (given_by b) (contents_of b (g.S.Shelf.left c.next_packet.new.source)) (rw c.in-Ok-None.field-0-is at c.in-Ok-None.ensures.ended).over
 
 pub returns-in-Err-clause-fault : goal.returns-in-Err-clause-fault
 returns-in-Err-clause-fault g c =

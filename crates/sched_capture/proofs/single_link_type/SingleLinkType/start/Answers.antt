@@ -52,7 +52,7 @@ opens_end g c file opened =
     let b = c.next_packet.new.self in
     let e = c.in-Ok-None.ensures in
     opens_none file (contents_of c.args.arrivals (g.S.Shelf.left c.args.source.now)) (contents_of b (g.S.Shelf.left c.next_packet.new.source)) 0 (given_by b) (captured_by b)
-    (rw c.in-Ok-None.field-0-is at e.ended) (rw c.in-Ok-None.field-0-is at e.over) opened
+    (rw c.in-Ok-None.field-0-is at e.ended).at (rw c.in-Ok-None.field-0-is at e.ended).over opened
 
 pub returns-in-Ok-None-clause-begins : goal.returns-in-Ok-None-clause-begins
 returns-in-Ok-None-clause-begins g c =
@@ -67,7 +67,7 @@ returns-in-Ok-None-clause-captures g c =
     λ file opened. captured_at_start (one_link_in file) _ (given_by b) none (opens_end g c file opened)
 
 pub returns-in-Ok-None-clause-link : goal.returns-in-Ok-None-clause-link
-returns-in-Ok-None-clause-link g c = λ file opened. link_of_none file (contents_of c.args.arrivals (g.S.Shelf.left c.args.source.now)) (rw c.in-Ok-None.field-0-is at c.in-Ok-None.ensures.ended) opened
+returns-in-Ok-None-clause-link g c = λ file opened. link_of_none file (contents_of c.args.arrivals (g.S.Shelf.left c.args.source.now)) (rw c.in-Ok-None.field-0-is at c.in-Ok-None.ensures.ended).at opened
 
 -- ---- a read error
 pub returns-clause-refuses : goal.returns-clause-refuses

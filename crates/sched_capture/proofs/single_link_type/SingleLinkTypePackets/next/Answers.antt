@@ -87,8 +87,8 @@ returns-in-Ok-None-clause-none g c =
     let left = contents_of b (g.S.Shelf.left c.next_packet.new.source) in
     let gone : c.args.self.now.ahead ≡ None = sym c.in_default.ensures.value in
     rw (gone, c.take.ensures.after, c.next_packet.ensures.policy) (λ _. ends (resolved_of a) (given_by a) (given_by b) (option_map (rest_of_link o.link (given_by a)) old)
-    (option_map (rest_of_link o.link (given_by b)) left) (at_end None o.link (given_by a) old (rw c.in-Ok-None.field-0-is at e.ended))
-    (over_at_end o.link (given_by b) left (rw c.in-Ok-None.field-0-is at e.over)))
+    (option_map (rest_of_link o.link (given_by b)) left) (at_end None o.link (given_by a) old (rw c.in-Ok-None.field-0-is at e.ended).at)
+    (over_at_end o.link (given_by b) left (rw c.in-Ok-None.field-0-is at e.ended).over))
 
 pub returns-in-Ok-None-clause-over : goal.returns-in-Ok-None-clause-over
 returns-in-Ok-None-clause-over g c =
@@ -96,7 +96,7 @@ returns-in-Ok-None-clause-over g c =
     let b = c.next_packet.new.self in
     let left = contents_of b (g.S.Shelf.left c.next_packet.new.source) in
     rw (c.take.ensures.after) (λ _. is_over (resolved_of b) (given_by b) (option_map (rest_of_link o.link (given_by b)) left)
-    (over_at_end o.link (given_by b) left (rw c.in-Ok-None.field-0-is at c.in-Ok-None.ensures.over)))
+    (over_at_end o.link (given_by b) left (rw c.in-Ok-None.field-0-is at c.in-Ok-None.ensures.ended).over))
 
 pub returns-in-Ok-None-clause-known : goal.returns-in-Ok-None-clause-known
 returns-in-Ok-None-clause-known g c =
@@ -104,7 +104,7 @@ returns-in-Ok-None-clause-known g c =
     let b = c.next_packet.new.self in
     let left = contents_of b (g.S.Shelf.left c.next_packet.new.source) in
     rw (c.take.ensures.after) (none_known _ (given_by b) (option_map (rest_of_link o.link (given_by b)) left)
-    (over_at_end o.link (given_by b) left (rw c.in-Ok-None.field-0-is at c.in-Ok-None.ensures.over)))
+    (over_at_end o.link (given_by b) left (rw c.in-Ok-None.field-0-is at c.in-Ok-None.ensures.ended).over))
 
 pub returns-in-Err-clause-fault : goal.returns-in-Err-clause-fault
 returns-in-Err-clause-fault g c =

@@ -1,22 +1,8 @@
-use Rattle.sched_core.proofs.Prelude.{arith, ap, ◌∙◌, sym, Some, Option, is_some, nat_eq, true≢false, get, Packet, or_stray}
+use Rattle.sched_core.proofs.Prelude.{ap, ◌∙◌, sym, Some, Option, is_some, nat_eq, true≢false, get, Packet, or_stray}
 use Rattle.sched_core.specs.Windows.{packet_at}
 use Rattle.sched_core.specs.Held.{held_at}
 use Rattle.sched_core.proofs.SlotLaws.{split, if_same, if_other}
 use Rattle.sched_core.proofs.held.Held.move_outliers.Goals as goal
-
-pub invariant_of-self : goal.invariant_of-self
-invariant_of-self c =
-    let h = c.loop-packet.self in
-    record {
-      apart = λ n some. h.apart n (sym (ap is_some (c.stretch.ensures.packets n)) ∙ some);
-      behind = λ n far few. h.behind n (omega (arith, c.stretch.ensures.near, far)) few;
-    }
-
-pub returns-clause-held : goal.returns-clause-held
-unfolding held_at
-returns-clause-held c = λ n.
-    let h = c.loop-packet.self in
-    ap (λ (o : Option Packet). or_stray o (get nat_eq h.strays n)) (c.stretch.ensures.packets n) ∙ c.loop-packet.invariant.held n
 
 pub put_stray-requires : goal.put_stray-requires
 unfolding packet_at

@@ -1,52 +1,67 @@
-use Rattle.sched_core.proofs.Prelude.{◌≡◌, ◌∙◌, sym, ap, ◌<◌, get_or, on_ok_weaker, address_at, nodes, class_of, Policy, Packet, policy_of}
+use Rattle.sched_core.proofs.Prelude.{arith, ◌≡◌, ◌<◌, ◌∙◌, sym, ap, length, subst, on_ok_weaker, Policy, Packet, Flow, class_of, policy_of, nodes, slice_set, LeadsToLeaf, address_at, HasRoomAt}
 use Rattle.rank_defs.specs.declared.flow_group.FlowGroup.{FlowGroup}
 use Rattle.rank_defs.specs.FlowGroups.{grouped}
-use Rattle.policy_defs.specs.Policy.{Class}
-use Rattle.policy_core.proofs.PolicyParts.{all-at}
-use Rattle.sched_core.proofs.ClassLeaves.{class-within, class-is, leaf-leads}
-use Rattle.sched_core.proofs.GroupLaws.{numbered-group, room-grouped}
+use Rattle.rank_defs.specs.declared.environment.FlowKey.{FlowKey}
+use Rattle.policy_defs.specs.Policy.{group_at}
+use Rattle.sched_core.proofs.RootWays.{leaf-leads, leaf-address}
+use Rattle.sched_core.proofs.GroupLaws.{room-grouped}
+use Rattle.sched_core.proofs.RoomLaws.{flow-belongs, stations-reserved, values-reserved, room-reserved, room-made}
 use Rattle.sched_core.proofs.node_states.NodeStates.reserve.Goals as goal
+use Rattle.sched_core.proofs.node_states.NodeStates.reserve.Goals.{After-path-path}
 
--- ---- if some node groups flows
-pub group-requires : goal.group-requires
-group-requires c =
+-- ---- if the leaf tells flows apart by all five fields
+there : (c : After-path-path) → c.path-path.result.now.leaf < nodes (policy_of c.args.self.now).tree × LeadsToLeaf (policy_of c.args.self.now).tree (address_at (policy_of c.args.self.now).tree c.path-path.result.now.leaf)
+there c = leaf-leads (policy_of c.args.self.now) c.args.packet.now c.requires.known c.requires.accepted c.path-path.result.now c.path-path.ensures.path
+
+short : (c : After-path-path) → c.path-path.result.now.leaf < length c.args.self.now.states.items
+short c = omega (arith, (there c).0, c.args.self.now.kept.count)
+
+pub index_mut-requires : goal.index_mut-requires
+index_mut-requires c = omega (arith, short (goal.at.index_mut-requires c).After-path-path, c.args.self.now.states.ok)
+
+pub reserve-requires : goal.reserve-requires
+reserve-requires c =
+    let t = (goal.at.reserve-requires c).After-path-path in
+    record { belongs = flow-belongs (policy_of c.args.self.now).tree c.args.self.now.states.items _ c.index_mut.result.now (there t).0 (short t) c.args.self.now.kept c.index_mut.ensures.value _ (there t).1 }
+
+pub invariant_of-self-clause-kept : goal.invariant_of-self-clause-kept
+invariant_of-self-clause-kept c =
+    let t = (goal.at.invariant_of-self-clause-kept c).After-path-path in
+    stations-reserved (policy_of c.args.self.now).tree c.args.self.now.states.items _ c.index_mut.result.now (there t).0 (short t) c.args.self.now.kept c.index_mut.ensures.value
+    c.reserve.new.self c.reserve.ensures.same c.reserve.ensures.kept c.reserve.ensures.children
+
+pub returns-in-FiveTuple-clause-room : goal.returns-in-FiveTuple-clause-room
+returns-in-FiveTuple-clause-room c =
+    let t = (goal.at.returns-in-FiveTuple-clause-room c).After-path-path in
     let policy : Policy = policy_of c.args.self.now in
-    record { there = all-at _ c.classes.result.now c.args.packet.now.class c.index-classes-packet.result c.classes.ensures.leaves (class-within policy c.classes.result.now c.classes.ensures.classes c.args.packet.now c.requires.class) }
+    let p : Packet = c.args.packet.now in
+    let at : address_at policy.tree c.path-path.result.now.leaf ≡ (class_of policy p).leaf = leaf-address policy p c.requires.known c.requires.accepted c.path-path.result.now c.path-path.ensures.path in
+    let key : p.flow ≡ grouped (group_at policy (class_of policy p).leaf) p.flow = ap (λ (g : FlowGroup). grouped g p.flow) (sym c.in-FiveTuple.is ∙ c.path-path.ensures.path.group) in
+    on_ok_weaker c.reserve.result (λ made. subst (λ (f : FlowKey). HasRoomAt policy.tree (slice_set c.args.self.now.states.items c.path-path.result.now.leaf c.reserve.new.self) (class_of policy p).leaf (Flow f)) key
+    (room-made policy.tree c.args.self.now.states.items _ c.index_mut.result.now (there t).0 (short t) c.args.self.now.kept c.index_mut.ensures.value
+    c.reserve.new.self c.reserve.ensures.same c.reserve.ensures.kept (class_of policy p).leaf (Flow p.flow) (sym c.path-path.ensures.path.leaf) made)) c.reserve.ensures.room
 
+pub returns-in-FiveTuple-clause-states : goal.returns-in-FiveTuple-clause-states
+returns-in-FiveTuple-clause-states c =
+    let t = (goal.at.returns-in-FiveTuple-clause-states c).After-path-path in
+    values-reserved (policy_of c.args.self.now).tree c.args.self.now.states.items _ c.index_mut.result.now (there t).0 (short t) c.args.self.now.kept c.index_mut.ensures.value
+    c.reserve.new.self c.reserve.ensures.same c.reserve.ensures.kept
+
+pub returns-in-FiveTuple-clause-kept : goal.returns-in-FiveTuple-clause-kept
+returns-in-FiveTuple-clause-kept c = λ other.
+    let t = (goal.at.returns-in-FiveTuple-clause-kept c).After-path-path in
+    room-reserved (policy_of c.args.self.now).tree c.args.self.now.states.items _ c.index_mut.result.now (there t).0 (short t) c.args.self.now.kept c.index_mut.ensures.value
+    c.reserve.new.self c.reserve.ensures.same c.reserve.ensures.kept _ _
+
+-- ---- if it groups them
 pub reserve_at-requires : goal.reserve_at-requires
 reserve_at-requires c =
-    let policy : Policy = policy_of c.args.self.now in
-    record {
-      there = all-at _ c.classes.result.now c.args.packet.now.class c.index-classes-packet.result c.classes.ensures.leaves (class-within policy c.classes.result.now c.classes.ensures.classes c.args.packet.now c.requires.class);
-      leads = leaf-leads policy c.classes.result.now c.classes.ensures.classes c.args.packet.now c.requires.class c.classes.ensures.accepted c.index-classes-packet.result;
-    }
+    let l = leaf-leads (policy_of c.args.self.now) c.args.packet.now c.requires.known c.requires.accepted c.path-path.result.now c.path-path.ensures.path in
+    record { there = l.0; leads = l.1 }
 
-pub returns-then-self-clause-room : goal.returns-then-self-clause-room
-returns-then-self-clause-room c =
+pub returns-in_default-clause-room : goal.returns-in_default-clause-room
+returns-in_default-clause-room c =
     let policy : Policy = policy_of c.args.self.now in
     let p : Packet = c.args.packet.now in
-    let within = class-within policy c.classes.result.now c.classes.ensures.classes p c.requires.class in
-    let at : address_at policy.tree (get_or c.classes.result.now p.class c.index-classes-packet.result).leaf ≡ (class_of policy p).leaf
-    = ap (λ (k : Class). k.leaf) (class-is policy c.classes.result.now c.classes.ensures.classes p c.requires.class c.index-classes-packet.result within) in
-    on_ok_weaker c.reserve_at.result (room-grouped c.reserve_at.new.self policy p _ _ c.reserve_at.ensures.policy at
-    (c.of-key.ensures ∙ ap (λ (g : FlowGroup). grouped g p.flow) (numbered-group policy _ _ c.group.ensures.group))) c.reserve_at.ensures.room
-
--- ---- if none does
-pub reserve_at-requires-2 : goal.reserve_at-requires-2
-reserve_at-requires-2 c =
-    let policy : Policy = policy_of c.args.self.now in
-    record {
-      there = all-at _ c.classes.result.now c.args.packet.now.class c.index-classes-packet.result c.classes.ensures.leaves (class-within policy c.classes.result.now c.classes.ensures.classes c.args.packet.now c.requires.class);
-      leads = leaf-leads policy c.classes.result.now c.classes.ensures.classes c.args.packet.now c.requires.class c.classes.ensures.accepted c.index-classes-packet.result;
-    }
-
-pub returns-clause-room : goal.returns-clause-room
-returns-clause-room c =
-    let policy : Policy = policy_of c.args.self.now in
-    let p : Packet = c.args.packet.now in
-    let within = class-within policy c.classes.result.now c.classes.ensures.classes p c.requires.class in
-    let at : address_at policy.tree (get_or c.classes.result.now p.class c.index-classes-packet.result).leaf ≡ (class_of policy p).leaf
-    = ap (λ (k : Class). k.leaf) (class-is policy c.classes.result.now c.classes.ensures.classes p c.requires.class c.index-classes-packet.result within) in
-    let there : (get_or c.classes.result.now p.class c.index-classes-packet.result).leaf < nodes policy.tree = all-at _ c.classes.result.now p.class c.index-classes-packet.result c.classes.ensures.leaves within in
-    on_ok_weaker c.reserve_at-2.result (room-grouped c.reserve_at-2.new.self policy p _ _ c.reserve_at-2.ensures.policy at
-    (sym (ap (λ (g : FlowGroup). grouped g p.flow) (c.args.self.now.grouped c.if-self.false _ there)))) c.reserve_at-2.ensures.room
+    on_ok_weaker c.reserve_at.result (room-grouped c.reserve_at.new.self policy p _ _ c.reserve_at.ensures.policy (leaf-address policy p c.requires.known c.requires.accepted c.path-path.result.now c.path-path.ensures.path)
+    (c.of-key.ensures ∙ ap (λ (g : FlowGroup). grouped g p.flow) c.path-path.ensures.path.group)) c.reserve_at.ensures.room

@@ -61,6 +61,14 @@ returns-in_err-put-clause-err c =
       now = own.now;
     })
 
+-- ---- the steps, under the same policy
+pub push_steps-requires-clause-ready : goal.push_steps-requires-clause-ready
+push_steps-requires-clause-ready c = record {
+  known = subst (λ (z : Policy). IsKnown z c.args.packet.now) (sym c.reserve.ensures.policy) c.requires.stands.has.known;
+  accepted = subst IsAccepted (sym c.reserve.ensures.policy) c.requires.accepted;
+  room = c.in_ok-reserve.ensures.room;
+}
+
 -- ---- the flow of each queued packet has room at its leaf
 same-packet : (p q : Packet) → Some p ≡ Some q → p ≡ q
 same-packet p q e = ap (λ (o : Option Packet). unwrap_or o p) e
@@ -72,8 +80,8 @@ invariant_of-self-2 c =
       room = λ n q at. split n p.number
           (λ same. subst (λ (z : Packet). HasFlowRoom c.push_steps.new.self z)
           (same-packet p q (sym (if_same n p.number (Some p) (held_at c.args.self.now.held n) same) ∙ sym (c.in_ok-put.ensures.ok n) ∙ at))
-          (c.push_steps.ensures.kept p c.in_ok-reserve.ensures.room))
-          (λ other. c.push_steps.ensures.kept q (c.reserve.ensures.kept q
+          (c.push_steps.ensures.kept.rooms p c.in_ok-reserve.ensures.room))
+          (λ other. c.push_steps.ensures.kept.rooms q (c.reserve.ensures.kept q
           (c.args.self.now.room n q (sym (if_other n p.number (Some p) (held_at c.args.self.now.held n) other) ∙ sym (c.in_ok-put.ensures.ok n) ∙ at))));
     }
 
@@ -82,33 +90,33 @@ pub add_to_totals-requires : goal.add_to_totals-requires
 add_to_totals-requires c =
     let policy : Policy = policy_in c.args.self.now in
     let r = c.requires.stands in
-    let same : policy_of c.push_steps.new.self ≡ policy = c.push_steps.ensures.policy ∙ c.reserve.ensures.policy in
+    let same : policy_of c.push_steps.new.self ≡ policy = c.push_steps.ensures.kept.policy ∙ c.reserve.ensures.policy in
     record {
       known = subst (λ (z : Policy). IsKnown z c.args.packet.now) (sym same) r.has.known;
       accepted = subst IsAccepted (sym same) c.requires.accepted;
-      sized = subst (λ (z : Policy). AreSized z c.reserve_totals.new.totals) (sym c.push_steps.ensures.policy)
+      sized = subst (λ (z : Policy). AreSized z c.reserve_totals.new.totals) (sym c.push_steps.ensures.kept.policy)
           (kept-sized (policy_of c.reserve.new.self) c.reserve_totals.new.totals (amounts_in (policy_of c.reserve.new.self) r.state)
           (c.reserve_totals.ensures.kept (amounts_in (policy_of c.reserve.new.self) r.state)
           (subst (λ (z : Policy). AreKept z c.args.self.now.totals (amounts_in z r.state)) (sym c.reserve.ensures.policy) r.stood.totals)));
-      room = subst (λ (z : Policy). HasTotalsRoom z c.args.packet.now c.reserve_totals.new.totals) (sym c.push_steps.ensures.policy) c.in_ok-reserve_totals.ensures.room;
+      room = subst (λ (z : Policy). HasTotalsRoom z c.args.packet.now c.reserve_totals.new.totals) (sym c.push_steps.ensures.kept.policy) c.in_ok-reserve_totals.ensures.room;
     }
 
 pub index_mut-requires : goal.index_mut-requires
 index_mut-requires c =
     let policy : Policy = policy_in c.args.self.now in
     let r = c.requires.stands in
-    let same : policy_of c.push_steps.new.self ≡ policy = c.push_steps.ensures.policy ∙ c.reserve.ensures.policy in
-    let is : c.leaf-leaf.result ≡ leaf_number policy c.args.packet.now = c.leaf-leaf.ensures.number ∙ ap (λ (z : Policy). leaf_number z c.args.packet.now) same in
-    let within = count-within policy c.requires.accepted c.args.packet.now r.has.known.class c.args.self.now.filled.items r.state r.stood.filled c.leaf-leaf.result is in
+    let same : policy_of c.push_steps.new.self ≡ policy = c.push_steps.ensures.kept.policy ∙ c.reserve.ensures.policy in
+    let is : c.path.result.now.leaf ≡ leaf_number policy c.args.packet.now = c.path.ensures.path.leaf in
+    let within = count-within policy c.requires.accepted c.args.packet.now r.has.known.class c.args.self.now.filled.items r.state r.stood.filled c.path.result.now.leaf is in
     omega (arith, within, c.args.self.now.filled.ok)
 
 pub overflow_add-index_mut : goal.overflow_add-index_mut
 overflow_add-index_mut c =
     let policy : Policy = policy_in c.args.self.now in
     let r = c.requires.stands in
-    let same : policy_of c.push_steps.new.self ≡ policy = c.push_steps.ensures.policy ∙ c.reserve.ensures.policy in
-    let is : c.leaf-leaf.result ≡ leaf_number policy c.args.packet.now = c.leaf-leaf.ensures.number ∙ ap (λ (z : Policy). leaf_number z c.args.packet.now) same in
-    let few = count-few policy c.requires.accepted c.args.packet.now r.has.known.class c.args.self.now.filled.items r.state r.stood.filled c.leaf-leaf.result is c.index_mut.result.now c.index_mut.ensures.value in
+    let same : policy_of c.push_steps.new.self ≡ policy = c.push_steps.ensures.kept.policy ∙ c.reserve.ensures.policy in
+    let is : c.path.result.now.leaf ≡ leaf_number policy c.args.packet.now = c.path.ensures.path.leaf in
+    let few = count-few policy c.requires.accepted c.args.packet.now r.has.known.class c.args.self.now.filled.items r.state r.stood.filled c.path.result.now.leaf is c.index_mut.result.now c.index_mut.ensures.value in
     omega (arith, few, r.stood.few, c.requires.few)
 
 pub returns-clause-ok : goal.returns-clause-ok
@@ -116,8 +124,8 @@ returns-clause-ok c = λ s sound own.
     let policy : Policy = policy_in c.args.self.now in
     let p : Packet = c.args.packet.now in
     let moment : c.max-moment.result ≡ max s.now p.moment = c.max-moment.ensures ∙ ap (λ (m : ℕ). max m p.moment) (sym own.now) in
-    let same : policy_of c.push_steps.new.self ≡ policy = c.push_steps.ensures.policy ∙ c.reserve.ensures.policy in
-    let is : c.leaf-leaf.result ≡ leaf_number policy p = c.leaf-leaf.ensures.number ∙ ap (λ (z : Policy). leaf_number z p) same in
+    let same : policy_of c.push_steps.new.self ≡ policy = c.push_steps.ensures.kept.policy ∙ c.reserve.ensures.policy in
+    let is : c.path.result.now.leaf ≡ leaf_number policy p = c.path.ensures.path.leaf in
     let r = c.requires.stands in
     let can : (t : SourceState) → IsOwn c.args.self.now t → CanArrive policy t p
     = λ t h. record { fresh = sym (h.held p.number) ∙ r.stood.held p.number ∙ r.has.fresh; known = r.has.known; moment = r.has.moment } in
@@ -127,12 +135,12 @@ returns-clause-ok c = λ s sound own.
           (subst (λ (z : Policy). AreStates c.push_steps.new.self (after_pushes (way_in z p c.max-moment.result) s.nodes)) c.reserve.ensures.policy
           (c.push_steps.ensures.states s.nodes (c.reserve.ensures.states s.nodes own.nodes)));
       held = λ n. c.in_ok-put.ensures.ok n ∙ ap (λ (o : Option Packet). if n == p.number then Some p else o) (own.held n);
-      filled = filled-pushed policy c.requires.accepted p c.requires.stands.has.known.class c.args.self.now.filled.items s own.filled c.leaf-leaf.result is c.index_mut.result.now c.index_mut.ensures.value (policy_of c.push_steps.new.self) same sound (can s own);
+      filled = filled-pushed policy c.requires.accepted p c.requires.stands.has.known.class c.args.self.now.filled.items s own.filled c.path.result.now.leaf is c.index_mut.result.now c.index_mut.ensures.value (policy_of c.push_steps.new.self) same sound (can s own);
       totals = subst (λ (z : Policy). AreKept z c.add_to_totals.new.totals (amounts_in z (pushed policy p s))) (sym same)
           (kept-same policy c.add_to_totals.new.totals _ _ (amounts-pushed policy p s sound c.requires.accepted (can s own))
           (subst (λ (z : Policy). AreKept z c.add_to_totals.new.totals (with_one_more z p (amounts_in z s))) same
           (c.add_to_totals.ensures.kept (amounts_in (policy_of c.push_steps.new.self) s)
-          (subst (λ (z : Policy). AreKept z c.reserve_totals.new.totals (amounts_in z s)) (sym c.push_steps.ensures.policy)
+          (subst (λ (z : Policy). AreKept z c.reserve_totals.new.totals (amounts_in z s)) (sym c.push_steps.ensures.kept.policy)
           (c.reserve_totals.ensures.kept (amounts_in (policy_of c.reserve.new.self) s)
           (subst (λ (z : Policy). AreKept z c.args.self.now.totals (amounts_in z s)) (sym c.reserve.ensures.policy) own.totals)))
           (subst (λ (z : Policy). AreFew (amounts_in z s)) (sym same) (amounts-few policy s sound (omega (arith, own.few, c.requires.few)))))));

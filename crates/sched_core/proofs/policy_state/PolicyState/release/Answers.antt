@@ -1,4 +1,4 @@
-use Rattle.sched_core.proofs.Prelude.{arith, ◌≡◌, ap, ◌∙◌, sym, ℕ, List, subst, Some, refl, Option, None, is_some, if◌then◌else◌, ◌==◌, true≢false, Packet, number_at, Policy, LeavesItsLeaf, way_out, after_pops, size-pop, policy_of, AreStates, leaf_number, policy_in}
+use Rattle.sched_core.proofs.Prelude.{arith, ◌≡◌, ap, ◌∙◌, sym, ℕ, List, subst, Some, refl, Option, None, is_some, if◌then◌else◌, ◌==◌, true≢false, Packet, held_at, number_at, Policy, LeavesItsLeaf, way_out, after_pops, size-pop, policy_of, AreStates, leaf_number, policy_in}
 use Rattle.policy_defs.specs.Accepted.{IsAccepted}
 use Rattle.sched_defs.specs.Sound.{IsKnown}
 use Rattle.sched_defs.specs.SourceState.{left_with}
@@ -14,6 +14,13 @@ unreachable-requires c =
     let held = is_held (policy_in c.args.self.now) r.state c.args.number c.args.digits.now c.args.ranks.now r.has r.sound in
     let none : None ≡ Some held.0 = sym c.if-not-take.ensures.value ∙ r.stood.held c.args.number ∙ held.1 in
     absurd (true≢false (sym (ap is_some none)))
+
+pub pop_steps-requires-clause-ready : goal.pop_steps-requires-clause-ready
+pop_steps-requires-clause-ready c =
+    let r = c.requires.stands in
+    let p : Packet = c.take.new.packet in
+    let held : held_at c.args.self.now.held c.args.number ≡ Some p = c.if-not-take.ensures.value in
+    record { known = r.sound.known c.args.number p (sym (r.stood.held c.args.number) ∙ held); accepted = c.requires.accepted; room = c.args.self.now.room c.args.number p held }
 
 pub pop_steps-requires-clause-leaf_address : goal.pop_steps-requires-clause-leaf_address
 pop_steps-requires-clause-leaf_address c =
@@ -38,9 +45,9 @@ take_from_totals-requires c =
     let p : Packet = c.take.new.packet in
     let held : r.state.held c.args.number ≡ Some p = sym (r.stood.held c.args.number) ∙ c.if-not-take.ensures.value in
     record {
-      known = subst (λ (z : Policy). IsKnown z p) (sym c.pop_steps.ensures.policy) (r.sound.known c.args.number p held);
-      accepted = subst IsAccepted (sym c.pop_steps.ensures.policy) c.requires.accepted;
-      sized = subst (λ (z : Policy). AreSized z c.args.self.now.totals) (sym c.pop_steps.ensures.policy) (kept-sized policy c.args.self.now.totals (amounts_in policy r.state) r.stood.totals);
+      known = subst (λ (z : Policy). IsKnown z p) (sym c.pop_steps.ensures.kept.policy) (r.sound.known c.args.number p held);
+      accepted = subst IsAccepted (sym c.pop_steps.ensures.kept.policy) c.requires.accepted;
+      sized = subst (λ (z : Policy). AreSized z c.args.self.now.totals) (sym c.pop_steps.ensures.kept.policy) (kept-sized policy c.args.self.now.totals (amounts_in policy r.state) r.stood.totals);
     }
 
 pub index_mut-requires : goal.index_mut-requires
@@ -49,8 +56,8 @@ index_mut-requires c =
     let r = c.requires.stands in
     let p : Packet = c.take.new.packet in
     let held : r.state.held c.args.number ≡ Some p = sym (r.stood.held c.args.number) ∙ c.if-not-take.ensures.value in
-    let is : c.leaf-leaf.result ≡ leaf_number policy p = c.leaf-leaf.ensures.number ∙ ap (λ (z : Policy). leaf_number z p) c.pop_steps.ensures.policy in
-    let within = count-within policy c.requires.accepted p (r.sound.known c.args.number p held).class c.args.self.now.filled.items r.state r.stood.filled c.leaf-leaf.result is in
+    let is : c.path.result.now.leaf ≡ leaf_number policy p = c.path.ensures.path.leaf in
+    let within = count-within policy c.requires.accepted p (r.sound.known c.args.number p held).class c.args.self.now.filled.items r.state r.stood.filled c.path.result.now.leaf is in
     omega (arith, within, c.args.self.now.filled.ok)
 
 pub overflow_sub-index_mut : goal.overflow_sub-index_mut
@@ -59,8 +66,8 @@ overflow_sub-index_mut c =
     let r = c.requires.stands in
     let p : Packet = c.take.new.packet in
     let held : r.state.held c.args.number ≡ Some p = sym (r.stood.held c.args.number) ∙ c.if-not-take.ensures.value in
-    let is : c.leaf-leaf.result ≡ leaf_number policy p = c.leaf-leaf.ensures.number ∙ ap (λ (z : Policy). leaf_number z p) c.pop_steps.ensures.policy in
-    let some = count-some policy c.requires.accepted p (r.sound.known c.args.number p held).class c.args.self.now.filled.items r.state r.stood.filled c.leaf-leaf.result is c.index_mut.result.now c.index_mut.ensures.value
+    let is : c.path.result.now.leaf ≡ leaf_number policy p = c.path.ensures.path.leaf in
+    let some = count-some policy c.requires.accepted p (r.sound.known c.args.number p held).class c.args.self.now.filled.items r.state r.stood.filled c.path.result.now.leaf is c.index_mut.result.now c.index_mut.ensures.value
     (taken policy r.state c.args.number c.args.digits.now c.args.ranks.now r.has) r.sound r.has.popped held in
     omega (arith, some)
 
@@ -69,19 +76,19 @@ returns-clause-state c = λ s sound own next.
     let policy : Policy = policy_in c.args.self.now in
     let p : Packet = c.take.new.packet in
     let held : s.held c.args.number ≡ Some p = sym (own.held c.args.number) ∙ c.if-not-take.ensures.value in
-    let is : c.leaf-leaf.result ≡ leaf_number policy p = c.leaf-leaf.ensures.number ∙ ap (λ (z : Policy). leaf_number z p) c.pop_steps.ensures.policy in
+    let is : c.path.result.now.leaf ≡ leaf_number policy p = c.path.ensures.path.leaf in
     rw (departed-popped policy s c.args.number c.args.digits.now c.args.ranks.now next p held) record {
       nodes = subst (λ (m : ℕ). AreStates c.pop_steps.new.self (after_pops (way_out policy p c.args.digits.now m) c.args.ranks.now s.nodes)) (sym own.now)
           (c.pop_steps.ensures.states s.nodes own.nodes);
       held = λ n. c.take.ensures.rest n ∙ ap (λ (o : Option Packet). if n == c.args.number then None else o) (own.held n);
-      filled = filled-left policy c.requires.accepted p (sound.known c.args.number p held).class c.args.self.now.filled.items s own.filled c.leaf-leaf.result is c.index_mut.result.now c.index_mut.ensures.value
+      filled = filled-left policy c.requires.accepted p (sound.known c.args.number p held).class c.args.self.now.filled.items s own.filled c.path.result.now.leaf is c.index_mut.result.now c.index_mut.ensures.value
           (taken policy s c.args.number c.args.digits.now c.args.ranks.now next) sound next.popped held
-          (policy_of c.pop_steps.new.self) c.pop_steps.ensures.policy;
-      totals = subst (λ (z : Policy). AreKept z c.take_from_totals.new.totals (amounts_in z (left_with policy s (taken policy s c.args.number c.args.digits.now c.args.ranks.now next) (Some p)))) (sym c.pop_steps.ensures.policy)
+          (policy_of c.pop_steps.new.self) c.pop_steps.ensures.kept.policy;
+      totals = subst (λ (z : Policy). AreKept z c.take_from_totals.new.totals (amounts_in z (left_with policy s (taken policy s c.args.number c.args.digits.now c.args.ranks.now next) (Some p)))) (sym c.pop_steps.ensures.kept.policy)
           (kept-same policy c.take_from_totals.new.totals _ _ (amounts-left policy p s sound (taken policy s c.args.number c.args.digits.now c.args.ranks.now next) next.popped held)
-          (subst (λ (z : Policy). AreKept z c.take_from_totals.new.totals (with_one_fewer z p (amounts_in z s))) c.pop_steps.ensures.policy
+          (subst (λ (z : Policy). AreKept z c.take_from_totals.new.totals (with_one_fewer z p (amounts_in z s))) c.pop_steps.ensures.kept.policy
           (c.take_from_totals.ensures.kept (amounts_in (policy_of c.pop_steps.new.self) s)
-          (subst (λ (z : Policy). AreKept z c.args.self.now.totals (amounts_in z s)) (sym c.pop_steps.ensures.policy) own.totals))));
+          (subst (λ (z : Policy). AreKept z c.args.self.now.totals (amounts_in z s)) (sym c.pop_steps.ensures.kept.policy) own.totals))));
       few = omega (arith, own.few, size-pop s.tree (taken policy s c.args.number c.args.digits.now c.args.ranks.now next) next.popped);
       now = own.now;
     }
@@ -93,6 +100,6 @@ returns-clause-value c = λ s sound own next.
     let held : s.held c.args.number ≡ Some p = sym (own.held c.args.number) ∙ c.if-not-take.ensures.value in
     let l : LeavesItsLeaf policy s (record { packet = p; digits = c.args.digits.now; ranks = c.args.ranks.now }) = leaves policy s c.args.number c.args.digits.now c.args.ranks.now next sound p held in
     let number : p.number ≡ c.args.number = sound.numbered c.args.number p held in
-    let leaf : number_at policy.tree c.args.digits.now ≡ c.leaf-leaf.result
-    = ap (λ (a : List ℕ). number_at policy.tree a) l.leaf_is ∙ ap (λ (z : Policy). leaf_number z p) (sym c.pop_steps.ensures.policy) ∙ sym c.leaf-leaf.ensures.number in
+    let leaf : number_at policy.tree c.args.digits.now ≡ c.path.result.now.leaf
+    = ap (λ (a : List ℕ). number_at policy.tree a) l.leaf_is ∙ sym c.path.ensures.path.leaf in
     rw (leaver-popped policy s c.args.number c.args.digits.now c.args.ranks.now next p held, number, leaf) refl

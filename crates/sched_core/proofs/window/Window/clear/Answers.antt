@@ -1,7 +1,7 @@
-use Rattle.sched_core.proofs.Prelude.{arith, ◌≡◌, ap, ◌∙◌, sym, ℕ, length, Some, ◌<◌, Option, None, ◌+◌, is_some, if◌then◌else◌, ◌==◌, set, Packet, packet_within, packet_of, numbers_below}
+use Rattle.sched_core.proofs.Prelude.{arith, List, Chunk, ◌≡◌, ap, ◌∙◌, sym, ℕ, length, Some, ◌<◌, Option, None, ◌+◌, is_some, if◌then◌else◌, ◌==◌, set, Packet, packet_within, packet_of, numbers_below}
 use Rattle.sched_core.specs.Windows.{packet_at}
-use Rattle.sched_core.proofs.SlotLaws.{if_other}
-use Rattle.sched_core.proofs.ChunkLaws.{taken, told}
+use Rattle.sched_core.proofs.SlotLaws.{if_other, among-none}
+use Rattle.sched_core.proofs.ChunkLaws.{taken, told, within-drop, drop-length}
 use Rattle.sched_core.proofs.NumberLaws.{below-same, below-without, found-below}
 use Rattle.sched_core.proofs.HeldNumbers.{was_empty}
 use Rattle.sched_core.proofs.window.Window.clear.Goals as goal
@@ -74,13 +74,56 @@ invariant_of-self-2 c =
       counted = omega (arith, fewer t c.if-not-take.ensures.value);
     }
 
-pub returns-clause-value : goal.returns-clause-value
-unfolding packet_at
-returns-clause-value c = stood (goal.at.returns-clause-value c).After-take ∙ c.if-not-take.ensures.value
+-- ---- empty chunks before all others are dropped
+none-in : (chunk x : Chunk) (n : ℕ) → chunk ≡ x → chunk.filled ≡ 0 → packet_of x n ≡ None
+none-in chunk x n is none = sym (ap (λ (y : Chunk). packet_of y n) is) ∙ among-none chunk.slots.items n (sym chunk.counted ∙ none)
 
-pub returns-clause-packets : goal.returns-clause-packets
-unfolding packet_at
-returns-clause-packets c = λ n. c.trim.ensures.packets n ∙ gone (goal.at.returns-clause-packets c).After-take n
+pub invariant_of-self-in-loop-self : goal.invariant_of-self-in-loop-self
+invariant_of-self-in-loop-self c =
+    let w = c.loop-self.self in
+    let some : 0 < length w.chunks.items = omega (arith, c.loop-self-test.true, c.len.ensures, w.chunks.ok) in
+    let rest : (n : ℕ) → packet_within (w.first + 1) c.pop_front.new.self.items n ≡ packet_within w.first w.chunks.items n
+    = λ n. ap (λ (cs : List Chunk). packet_within (w.first + 1) cs n) c.pop_front.ensures.rest
+    ∙ within-drop w.first w.chunks.items c.index.result.now n some (none-in c.index.result.now _ n c.index.ensures (omega (arith, c.if-index-eq0.true))) in
+    record {
+      low = omega (arith, w.low, ap length c.pop_front.ensures.rest, drop-length w.chunks.items some, c.pop_front.new.self.ok, w.chunks.ok);
+      ends = w.ends;
+      behind = λ n far. rest n ∙ w.behind n far;
+      counted = w.counted ∙ sym (ap length (below-same (packet_within (w.first + 1) c.pop_front.new.self.items) (packet_within w.first w.chunks.items) w.end (λ n l. rest n)));
+    }
 
-pub returns-clause-fewer : goal.returns-clause-fewer
-returns-clause-fewer c = λ _. omega (arith, c.trim.ensures.filled, fewer (goal.at.returns-clause-fewer c).After-take c.if-not-take.ensures.value)
+pub loop-self-preserved : goal.loop-self-preserved
+unfolding packet_at
+loop-self-preserved c =
+    let w = c.loop-self.self in
+    let some : 0 < length w.chunks.items = omega (arith, c.loop-self-test.true, c.len.ensures, w.chunks.ok) in
+    record {
+      packets = λ n. ap (λ (cs : List Chunk). packet_within (w.first + 1) cs n) c.pop_front.ensures.rest
+          ∙ within-drop w.first w.chunks.items c.index.result.now n some (none-in c.index.result.now _ n c.index.ensures (omega (arith, c.if-index-eq0.true)))
+          ∙ c.loop-self.invariant.packets n;
+      end = c.loop-self.invariant.end;
+      filled = c.loop-self.invariant.filled;
+    }
+
+-- ---- then the first chunk has a packet, or is the only one
+pub returns-else-index-eq0-clause-value : goal.returns-else-index-eq0-clause-value
+unfolding packet_at
+returns-else-index-eq0-clause-value c = stood (goal.at.returns-else-index-eq0-clause-value c).After-take ∙ c.if-not-take.ensures.value
+
+pub returns-else-index-eq0-clause-packets : goal.returns-else-index-eq0-clause-packets
+unfolding packet_at
+returns-else-index-eq0-clause-packets c = λ n. c.loop-self.invariant.packets n ∙ gone (goal.at.returns-else-index-eq0-clause-packets c).After-take n
+
+pub returns-else-index-eq0-clause-fewer : goal.returns-else-index-eq0-clause-fewer
+returns-else-index-eq0-clause-fewer c = λ _. omega (arith, c.loop-self.invariant.filled, fewer (goal.at.returns-else-index-eq0-clause-fewer c).After-take c.if-not-take.ensures.value)
+
+pub returns-after-loop-self-clause-value : goal.returns-after-loop-self-clause-value
+unfolding packet_at
+returns-after-loop-self-clause-value c = stood (goal.at.returns-after-loop-self-clause-value c).After-take ∙ c.if-not-take.ensures.value
+
+pub returns-after-loop-self-clause-packets : goal.returns-after-loop-self-clause-packets
+unfolding packet_at
+returns-after-loop-self-clause-packets c = λ n. c.loop-self.invariant.packets n ∙ gone (goal.at.returns-after-loop-self-clause-packets c).After-take n
+
+pub returns-after-loop-self-clause-fewer : goal.returns-after-loop-self-clause-fewer
+returns-after-loop-self-clause-fewer c = λ _. omega (arith, c.loop-self.invariant.filled, fewer (goal.at.returns-after-loop-self-clause-fewer c).After-take c.if-not-take.ensures.value)

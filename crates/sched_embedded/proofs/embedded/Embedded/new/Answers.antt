@@ -1,6 +1,7 @@
-use Rattle.sched_embedded.proofs.Prelude.{sym, ℕ, ◌∙◌, ap, subst, arith, length, IsGoodMap, image_map, IsLift, Policy, policy_in, empty_tree, topology_of, Address, Tree, HasLanes}
+use Rattle.sched_embedded.proofs.Prelude.{sym, ℕ, ◌∙◌, ap, subst, arith, length, IsGoodMap, image_map, IsLift, Policy, policy_in, empty_tree, topology_of, Address, Tree, HasLanes, Laid}
+use Rattle.sched_embedded.specs.Laid.{MapsToLeaves}
 use Rattle.embed_defs.proofs.EmbeddedMaps.{embeddings_are_good_maps as good_map}
-use Rattle.sched_embedded.proofs.MapShapes.{topology-same, embedding-laid, empty-lifted}
+use Rattle.sched_embedded.proofs.MapShapes.{topology-same, embedding-laid, empty-lifted, same_laid}
 use Rattle.sched_embedded.proofs.embedded.Embedded.new.Goals as goal
 
 pub new-requires-2 : goal.new-requires-2
@@ -12,6 +13,9 @@ invariant_of-result g c = record {
   few = (omega (arith, c.requires.pushes, c.pushes.ensures, c.in_ok-configure.ensures.pushed), omega (arith, c.requires.pops, c.pops.ensures, c.in_ok-configure.ensures.popped));
   lanes_lead = subst (λ (m : Tree Address). HasLanes m (policy_in c.in_ok-own.own) c.in_ok-lanes.lanes.items) (sym c.in_ok-embedding.ensures.images)
       (subst (λ (p : Policy). HasLanes c.args.map p c.in_ok-lanes.lanes.items) (sym c.in_ok-own.ensures.policy) c.in_ok-lanes.ensures.lanes);
+  leaves = subst (λ (l : Laid). MapsToLeaves l.images l.arities)
+      (sym (same_laid c.in_ok-embedding.embedding c.args.map c.args.target.now.arities c.in_ok-embedding.ensures.images c.in_ok-embedding.ensures.arities))
+      (embedding-laid (topology_of c.args.policy.now.policy.tree) c.args.map c.args.target.now.arities c.requires.map_shape c.requires.embedding).leaves;
   shape = ap (λ (p : Policy). topology_of p.tree) c.in_ok-own.ensures.policy ∙ topology-same (topology_of c.args.policy.now.policy.tree) c.args.map c.requires.map_shape
       ∙ ap (λ (m : Tree Address). topology_of m) (sym c.in_ok-embedding.ensures.images);
 }

@@ -26,13 +26,16 @@ depart_next-requires-clause-stands g c =
     (record { state = one.state; sound = one.sound; stood = one.stood; has = bound.1 }) in
     rw i.kept.policy (record { state = at.state; sound = at.sound; stood = at.stood; has = tt })
 
-pub depart_next-requires-clause-few : goal.depart_next-requires-clause-few
-depart_next-requires-clause-few g c =
+pub depart_next-requires-clause-room : goal.depart_next-requires-clause-room
+depart_next-requires-clause-room g c =
     let policy = g.C.Scheduler.policy c.args.self.now.scheduler in
     let one = c.requires.stands in
     let bound = held_bounded policy one.state one.sound in
     let leaves = ((c.loop-made.invariant.makes bound.0).played one.state one.sound one.stood bound.1).leaves in
-    omega (arith, leaves.asked, (departures_count policy c.loop-made._made None one.state).asked, c.loop-made-test.true, c.requires.few)
+    record {
+      departures = omega (arith, leaves.asked, (departures_count policy c.loop-made._made None one.state).asked, c.loop-made-test.true, c.requires.room.departures);
+      events = let i = c.loop-made.invariant in omega (arith, i.came, i.asked, c.loop-made-test.true, c.requires.room.events);
+    }
 
 pub returns-in_err-depart_next-clause-err : goal.returns-in_err-depart_next-clause-err
 returns-in_err-depart_next-clause-err g c =
@@ -48,10 +51,10 @@ loop-made-preserved g c =
     let made = rw i.kept.policy at e.ok in
     record {
       makes = λ given. departures_more g.C.Scheduler (heard_anyway g.W.Recorder) (heard-joined g.W.Recorder g.met.W.Recorder.joined any_bytes) (g.C.Scheduler.policy c.args.self.now.scheduler) c.requires.set.accepted c.loop-made._made _ _ refl (i.makes given) _ (made given);
-      came = e.came ∙ i.came;
-      asked = omega (arith, e.asked, i.asked);
+      came = e.counts.came ∙ i.came;
+      asked = omega (arith, e.counts.asked, i.asked);
       kept = continues_then g.C.Scheduler _ _ _ i.kept e.keeps.kept;
-      fewer = omega (arith, i.fewer, e.fewer);
+      fewer = omega (arith, i.fewer, e.keeps.fewer);
       kept_sink = sink-then _ _ _ _ _ i.kept_sink e.keeps.kept_sink;
       live = e.keeps.live;
     }

@@ -30,24 +30,23 @@ play_drawn-requires-clause-stands g c =
     (record { state = one.state; sound = one.sound; stood = one.stood; has = one.has.held }) in
     rw i.kept.policy (record { state = at.state; sound = at.sound; stood = at.stood; has = subst (λ (n : ℕ). IsHeldBelow n at.state.held) (sym i.number) at.has })
 
-pub play_drawn-requires-clause-early : goal.play_drawn-requires-clause-early
-play_drawn-requires-clause-early g c = omega (arith, c.loop-drawn.invariant.moment, c.loop-drawn-test.true, c.requires.short)
-
-pub play_drawn-requires-clause-few : goal.play_drawn-requires-clause-few
-play_drawn-requires-clause-few g c =
-    omega (arith, c.loop-drawn.invariant.number, load_arrivals c.loop-drawn._drawn (first_drawing c.args.seed), c.loop-drawn-test.true, c.requires.short)
-
-pub play_drawn-requires-clause-departures : goal.play_drawn-requires-clause-departures
-play_drawn-requires-clause-departures g c =
-    let S = g.C.Scheduler in
-    let room = load_room S (heard_without g.W.Recorder) (heard-joined g.W.Recorder g.met.W.Recorder.joined no_bytes) (S.policy c.args.self.now.scheduler) c.requires.set.accepted c.loop-drawn._drawn (first_drawing c.args.seed) _ _ (omega (arith, c.loop-drawn-test.true, c.requires.short)) c.requires.fresh c.requires.room.pushes c.requires.room.departures c.loop-drawn.invariant.made c.requires.stands in
-    omega (arith, room.departures_fit)
+pub play_drawn-requires-clause-draws : goal.play_drawn-requires-clause-draws
+play_drawn-requires-clause-draws g c =
+    let i = c.loop-drawn.invariant in
+    record {
+      classes = rw i.kept.policy c.requires.loads.classes;
+      early = omega (arith, i.moment, c.loop-drawn-test.true, c.requires.loads.short);
+      few = omega (arith, i.number, load_arrivals c.loop-drawn._drawn (first_drawing c.args.seed), c.loop-drawn-test.true, c.requires.loads.short);
+    }
 
 pub play_drawn-requires-clause-room : goal.play_drawn-requires-clause-room
 play_drawn-requires-clause-room g c =
     let S = g.C.Scheduler in
-    let room = load_room S (heard_without g.W.Recorder) (heard-joined g.W.Recorder g.met.W.Recorder.joined no_bytes) (S.policy c.args.self.now.scheduler) c.requires.set.accepted c.loop-drawn._drawn (first_drawing c.args.seed) _ _ (omega (arith, c.loop-drawn-test.true, c.requires.short)) c.requires.fresh c.requires.room.pushes c.requires.room.departures c.loop-drawn.invariant.made c.requires.stands in
-    record { pushes = omega (arith, room.pushes_fit); events = omega (arith, room.events); dropped = room.dropped }
+    let room = load_room S (heard_without g.W.Recorder) (heard-joined g.W.Recorder g.met.W.Recorder.joined no_bytes) (S.policy c.args.self.now.scheduler) c.requires.set.accepted c.loop-drawn._drawn (first_drawing c.args.seed) _ _ (omega (arith, c.loop-drawn-test.true, c.requires.loads.short)) c.requires.fresh c.requires.room.pushes c.requires.room.departures c.loop-drawn.invariant.made c.requires.stands in
+    record {
+      arrival = record { pushes = omega (arith, room.pushes_fit); events = omega (arith, room.events); dropped = room.dropped };
+      departures = omega (arith, room.departures_fit);
+    }
 
 pub returns-in_err-play_drawn-clause-err : goal.returns-in_err-play_drawn-clause-err
 returns-in_err-play_drawn-clause-err g c =
@@ -55,7 +54,7 @@ returns-in_err-play_drawn-clause-err g c =
     let S = g.C.Scheduler in
     let i = c.loop-drawn.invariant in
     let stop = rw i.kept.policy at c.in_err-play_drawn.ensures.err in
-    rw (p.1) (load_stops S (heard_without g.W.Recorder) (heard-joined g.W.Recorder g.met.W.Recorder.joined no_bytes) (S.policy c.args.self.now.scheduler) c.requires.set.accepted c.loop-drawn._drawn c.args.count (first_drawing c.args.seed) c.loop-drawn.drawing _ _ _ _ _ c.loop-drawn-test.true c.requires.classes (omega (arith, c.requires.short)) refl i.drawing (omega arith) i.made
+    rw (p.1) (load_stops S (heard_without g.W.Recorder) (heard-joined g.W.Recorder g.met.W.Recorder.joined no_bytes) (S.policy c.args.self.now.scheduler) c.requires.set.accepted c.loop-drawn._drawn c.args.count (first_drawing c.args.seed) c.loop-drawn.drawing _ _ _ _ _ c.loop-drawn-test.true c.requires.loads.classes (omega (arith, c.requires.loads.short)) refl i.drawing (omega arith) i.made
     (stop _ i.number))
 
 pub returns-in_err-play_drawn-clause-keeps : goal.returns-in_err-play_drawn-clause-keeps
@@ -66,6 +65,7 @@ returns-in_err-play_drawn-clause-keeps g c =
     rw (p.1, p.2) (record {
       kept = continues_then g.C.Scheduler _ _ _ i.kept e.kept;
       live = tt;
+      fewer = omega (arith, i.fewer, e.fewer);
       kept_sink = sink-then _ _ _ _ _ i.kept_sink e.kept_sink;
       cause = sink_cause_after _ g.K.Sink.faults _ _ _ i.kept_sink.later e.cause;
     })
@@ -85,7 +85,7 @@ loop-drawn-preserved g c =
       number = omega (arith, ap (λ (x : Drawing). x.number) next, one.number, i.number, load_arrivals-more c.loop-drawn._drawn d c.loop-drawn.drawing i.drawing);
       moment = omega (arith, ap (λ (x : Drawing). x.moment) next, one.moment, i.moment);
       kept = continues_then S _ _ _ i.kept e.keeps.kept;
-      fewer = omega (arith, i.fewer, e.fewer);
+      fewer = omega (arith, i.fewer, e.keeps.fewer);
       kept_sink = sink-then _ _ _ _ _ i.kept_sink e.keeps.kept_sink;
       live = e.keeps.live;
     }

@@ -11,7 +11,7 @@ make_arrival-requires-clause-stands g c =
       state = one.state;
       sound = one.sound;
       stood = one.stood;
-      has = drawn_can_arrive (g.C.Scheduler.policy c.args.self.now.scheduler) c.args.drawing.now c.in-Some.packet one.state c.in-Some.ensures.event c.requires.classes (omega (arith, c.requires.early)) one.has;
+      has = drawn_can_arrive (g.C.Scheduler.policy c.args.self.now.scheduler) c.args.drawing.now c.in-Some.packet one.state c.in-Some.ensures.event c.requires.draws.classes (omega (arith, c.requires.draws.early)) one.has;
     }
 
 pub returns-in-Some-clause-ok : goal.returns-in-Some-clause-ok
@@ -23,7 +23,7 @@ returns-in-Some-clause-ok g c =
     (stage_of c.args.self.now c.args.under.now (g.K.Sink.written c.args.sink.now) given (sight c.args.watch.now))
     (stage_of c.make_arrival.new.self c.make_arrival.new.under (g.K.Sink.written c.make_arrival.new.sink) (given + arrivals_in (e ∷ [])) (sight c.make_arrival.new.watch)))) is
     (on_ok_weaker c.make_arrival.result (λ all given number. makes_so g.C.Scheduler (heard_gives g.W.Recorder (IsCapturedAs c.in-Some.packet []) no_bytes (λ bytes none. none c.in-Some.packet.number)) policy (Arrive c.in-Some.packet ∷ []) _ _ (all given (subst (λ (e : Event). AreNext policy given (packets_in (e ∷ []))) (sym is)
-    (event_next policy c.args.drawing.now given c.requires.classes (omega (arith, c.requires.early)) number)))) c.make_arrival.ensures.ok)
+    (event_next policy c.args.drawing.now given c.requires.draws.classes (omega (arith, c.requires.draws.early)) number)))) c.make_arrival.ensures.ok)
 
 pub returns-in-Some-clause-err : goal.returns-in-Some-clause-err
 returns-in-Some-clause-err g c =
@@ -34,7 +34,7 @@ returns-in-Some-clause-err g c =
     (stage_of c.args.self.now c.args.under.now (g.K.Sink.written c.args.sink.now) given (sight c.args.watch.now))
     c.make_arrival.new.self.scheduler c.make_arrival.new.under (g.K.Sink.written c.make_arrival.new.sink))) is
     (on_err_weaker c.make_arrival.result (λ all given number. stops_so g.C.Scheduler (heard_gives g.W.Recorder (IsCapturedAs c.in-Some.packet []) no_bytes (λ bytes none. none c.in-Some.packet.number)) policy (Arrive c.in-Some.packet ∷ []) _ _ _ _ (all given (subst (λ (e : Event). AreNext policy given (packets_in (e ∷ []))) (sym is)
-    (event_next policy c.args.drawing.now given c.requires.classes (omega (arith, c.requires.early)) number)))) c.make_arrival.ensures.err)
+    (event_next policy c.args.drawing.now given c.requires.draws.classes (omega (arith, c.requires.draws.early)) number)))) c.make_arrival.ensures.err)
 
 pub returns-in_err-depart_next-in-None-clause-err : goal.returns-in_err-depart_next-in-None-clause-err
 returns-in_err-depart_next-in-None-clause-err g c =

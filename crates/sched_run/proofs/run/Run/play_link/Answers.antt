@@ -12,12 +12,12 @@ loop-packets-init g c =
     record {
       run = link_begins S (heard g.W.Recorder (g.P.Packets.captures c.args.packets.now c.args.source.now)) (heard-joined g.W.Recorder g.met.W.Recorder.joined (g.P.Packets.captures c.args.packets.now c.args.source.now)) policy c.args.rate c.new-link.result c.new-link.ensures _ _ _ _ _ _ _ _;
       early = omega (arith, c.new-link.ensures);
-      further = record { ready = c.requires.feeds.ready; known = λ bytes are. are; given = refl; few = c.requires.counts.few };
+      further = record { ready = c.requires.begins.feeds.ready; known = λ bytes are. are; given = refl; few = c.requires.begins.counts.few };
       kept = record { policy = refl; origin = refl; names = refl; version = refl; room = refl };
       fewer = omega arith;
       kept_sink = sink-same _ _ _;
       kept_packets = record { policy = refl; later = omega arith };
-      going = c.requires.going;
+      going = c.requires.paced.going;
       live = c.requires.set.live;
     }
 
@@ -26,7 +26,7 @@ arrive_paced-requires-clause-stands g c =
     let S = g.C.Scheduler in
     let i = c.loop-packets.invariant in
     let number = c.in-Ok-true.ensures.number c.in-Ok-true.field-0-test in
-    let ready = run_ready S (heard g.W.Recorder (g.P.Packets.captures c.args.packets.now c.args.source.now)) (heard-joined g.W.Recorder g.met.W.Recorder.joined (g.P.Packets.captures c.args.packets.now c.args.source.now)) (S.policy c.args.self.now.scheduler) c.requires.set.accepted _ _ _ _ _ _ _ _ i.further.given i.further.few c.requires.fresh (omega arith) c.requires.stands i.run in
+    let ready = run_ready S (heard g.W.Recorder (g.P.Packets.captures c.args.packets.now c.args.source.now)) (heard-joined g.W.Recorder g.met.W.Recorder.joined (g.P.Packets.captures c.args.packets.now c.args.source.now)) (S.policy c.args.self.now.scheduler) c.requires.set.accepted _ _ _ _ _ _ _ _ i.further.given i.further.few c.requires.begins.fresh (omega arith) c.requires.stands i.run in
     rw i.kept.policy (record {
       state = ready.state;
       sound = ready.sound;
@@ -38,15 +38,11 @@ pub arrive_paced-requires-clause-paced : goal.arrive_paced-requires-clause-paced
 arrive_paced-requires-clause-paced g c =
     let S = g.C.Scheduler in
     let i = c.loop-packets.invariant in
-    let room = run_room S (heard g.W.Recorder (g.P.Packets.captures c.args.packets.now c.args.source.now)) (heard-joined g.W.Recorder g.met.W.Recorder.joined (g.P.Packets.captures c.args.packets.now c.args.source.now)) (S.policy c.args.self.now.scheduler) c.requires.set.accepted _ _ _ _ _ _ _ _ i.further.given i.further.few c.requires.fresh (omega arith) c.requires.stands i.run c.requires.counts in
-    record { going = i.going; counts = record { departures_fit = room.departures_fit; few_asked = room.few_asked; few_came = omega (arith, room.came, room.few) }; rate = c.requires.rate; early = i.early }
-
-pub arrive_paced-requires-clause-room : goal.arrive_paced-requires-clause-room
-arrive_paced-requires-clause-room g c =
-    let S = g.C.Scheduler in
-    let i = c.loop-packets.invariant in
-    let room = run_room S (heard g.W.Recorder (g.P.Packets.captures c.args.packets.now c.args.source.now)) (heard-joined g.W.Recorder g.met.W.Recorder.joined (g.P.Packets.captures c.args.packets.now c.args.source.now)) (S.policy c.args.self.now.scheduler) c.requires.set.accepted _ _ _ _ _ _ _ _ i.further.given i.further.few c.requires.fresh (omega arith) c.requires.stands i.run c.requires.counts in
-    record { pushes = omega (arith, room.pushes_fit, room.came, room.few); events = omega (arith, room.came, room.few, room.few_asked); dropped = room.dropped }
+    let room = run_room S (heard g.W.Recorder (g.P.Packets.captures c.args.packets.now c.args.source.now)) (heard-joined g.W.Recorder g.met.W.Recorder.joined (g.P.Packets.captures c.args.packets.now c.args.source.now)) (S.policy c.args.self.now.scheduler) c.requires.set.accepted _ _ _ _ _ _ _ _ i.further.given i.further.few c.requires.begins.fresh (omega arith) c.requires.stands i.run c.requires.begins.counts in
+    record {
+      paced = record { going = i.going; counts = record { departures_fit = room.departures_fit; few_asked = room.few_asked; few_came = omega (arith, room.came, room.few) }; rate = c.requires.paced.rate; early = i.early };
+      room = record { pushes = omega (arith, room.pushes_fit, room.came, room.few); events = omega (arith, room.came, room.few, room.few_asked); dropped = room.dropped };
+    }
 
 pub loop-packets-preserved : goal.loop-packets-preserved
 loop-packets-preserved g c =
@@ -60,14 +56,14 @@ loop-packets-preserved g c =
     let came = n.came c.in-Ok-true.field-0-test in
     let known = n.bytes c.in-Ok-true.field-0-test in
     let sends = rw (i.kept.policy, c.if-over.false) at e.ok in
-    let one_came = rw c.if-over.false at e.counts.came in
+    let one_came = rw c.if-over.false at e.paces.came in
     record {
       run = run_goes S (heard g.W.Recorder (g.P.Packets.captures c.args.packets.now c.args.source.now)) (heard-joined g.W.Recorder g.met.W.Recorder.joined (g.P.Packets.captures c.args.packets.now c.args.source.now)) policy c.requires.set.accepted _ _ _ _ _ _ _ _ i.further.given i.run _ _ _ _
           (link_goes S (heard g.W.Recorder (g.P.Packets.captures c.args.packets.now c.args.source.now)) policy c.args.rate c.loop-packets.link c.next.new.packet c.arrive_paced.new.link _ _ _ _ came (same_sends S (heard g.W.Recorder (g.P.Packets.captures c.args.packets.now c.args.source.now)) policy _ _ _ _ _ _ _ _ _ _ _ (sym given) (sends_so S (heard_gives g.W.Recorder (IsCapturedAs c.next.new.packet c.captured-captured.result.now) (g.P.Packets.captures c.args.packets.now c.args.source.now) (λ bytes are. known bytes (i.further.known bytes are) ∙ sym c.captured-captured.ensures)) policy _ _ _ _ (sends _ number))));
       early = e.paces.early;
       further = record { ready = n.ready; known = λ bytes are. n.known bytes (i.further.known bytes are); given = omega (arith, i.further.given, given, one_came); few = n.few };
       kept = continues_then S _ _ _ i.kept e.keeps.kept;
-      fewer = omega (arith, i.fewer, e.fewer);
+      fewer = omega (arith, i.fewer, e.keeps.fewer);
       kept_sink = sink-then _ _ _ _ _ i.kept_sink e.keeps.kept_sink;
       kept_packets = keeps_then g.P.Packets _ _ _ _ _ _ i.kept_packets (record { policy = n.policy; later = n.later });
       going = e.paces.over ∙ c.if-over.false;
@@ -91,15 +87,15 @@ pub send_until-requires-clause-stands : goal.send_until-requires-clause-stands
 send_until-requires-clause-stands g c =
     let S = g.C.Scheduler in
     let i = c.loop-packets.invariant in
-    let ready = run_ready S (heard g.W.Recorder (g.P.Packets.captures c.args.packets.now c.args.source.now)) (heard-joined g.W.Recorder g.met.W.Recorder.joined (g.P.Packets.captures c.args.packets.now c.args.source.now)) (S.policy c.args.self.now.scheduler) c.requires.set.accepted _ _ _ _ _ _ _ _ i.further.given i.further.few c.requires.fresh (omega arith) c.requires.stands i.run in
+    let ready = run_ready S (heard g.W.Recorder (g.P.Packets.captures c.args.packets.now c.args.source.now)) (heard-joined g.W.Recorder g.met.W.Recorder.joined (g.P.Packets.captures c.args.packets.now c.args.source.now)) (S.policy c.args.self.now.scheduler) c.requires.set.accepted _ _ _ _ _ _ _ _ i.further.given i.further.few c.requires.begins.fresh (omega arith) c.requires.stands i.run in
     rw i.kept.policy (record { state = ready.state; sound = ready.sound; stood = ready.stood; has = record { number = _; below = ready.has.held; few = ready.has.few } })
 
 pub send_until-requires-clause-paced : goal.send_until-requires-clause-paced
 send_until-requires-clause-paced g c =
     let S = g.C.Scheduler in
     let i = c.loop-packets.invariant in
-    let room = run_room S (heard g.W.Recorder (g.P.Packets.captures c.args.packets.now c.args.source.now)) (heard-joined g.W.Recorder g.met.W.Recorder.joined (g.P.Packets.captures c.args.packets.now c.args.source.now)) (S.policy c.args.self.now.scheduler) c.requires.set.accepted _ _ _ _ _ _ _ _ i.further.given i.further.few c.requires.fresh (omega arith) c.requires.stands i.run c.requires.counts in
-    record { going = i.going; counts = record { departures_fit = room.departures_fit; few_asked = room.few_asked; few_came = omega (arith, room.came, room.few) }; rate = c.requires.rate; early = i.early }
+    let room = run_room S (heard g.W.Recorder (g.P.Packets.captures c.args.packets.now c.args.source.now)) (heard-joined g.W.Recorder g.met.W.Recorder.joined (g.P.Packets.captures c.args.packets.now c.args.source.now)) (S.policy c.args.self.now.scheduler) c.requires.set.accepted _ _ _ _ _ _ _ _ i.further.given i.further.few c.requires.begins.fresh (omega arith) c.requires.stands i.run c.requires.begins.counts in
+    record { going = i.going; counts = record { departures_fit = room.departures_fit; few_asked = room.few_asked; few_came = omega (arith, room.came, room.few) }; rate = c.requires.paced.rate; early = i.early }
 
 pub returns-in_err-over-in-Ok-false-clause-err : goal.returns-in_err-over-in-Ok-false-clause-err
 returns-in_err-over-in-Ok-false-clause-err g c =

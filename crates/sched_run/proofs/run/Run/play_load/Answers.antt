@@ -21,25 +21,15 @@ depart_some-requires-clause-stands g c =
     (record { state = one.state; sound = one.sound; stood = one.stood; has = one.has.held }) in
     rw e.keeps.kept.policy (record { state = at.state; sound = at.sound; stood = at.stood; has = tt })
 
-pub depart_some-requires-clause-few : goal.depart_some-requires-clause-few
-depart_some-requires-clause-few g c =
+pub depart_some-requires-clause-room : goal.depart_some-requires-clause-room
+depart_some-requires-clause-room g c =
     let S = g.C.Scheduler in
     let policy = S.policy c.args.self.now.scheduler in
     let e = c.in_ok-play_drawings.ensures in
     let waiting = rw e.keeps.kept.policy at (c.held-waiting.ensures c.play_drawings.new.under) in
     let room = load_room S (heard_without g.W.Recorder) (heard-joined g.W.Recorder g.met.W.Recorder.joined no_bytes) policy c.requires.set.accepted c.args.count (first_drawing c.args.seed) _ _ c.requires.short c.new-self.ensures c.requires.room.pushes c.requires.room.departures e.ok c.requires.stands in
     let held = load_held S (heard_without g.W.Recorder) (heard-joined g.W.Recorder g.met.W.Recorder.joined no_bytes) policy c.requires.set.accepted c.args.count (first_drawing c.args.seed) _ _ c.held-waiting.result c.requires.short e.ok c.requires.stands waiting in
-    omega (arith, room.departures_fit, held)
-
-pub depart_some-requires-clause-events : goal.depart_some-requires-clause-events
-depart_some-requires-clause-events g c =
-    let S = g.C.Scheduler in
-    let policy = S.policy c.args.self.now.scheduler in
-    let e = c.in_ok-play_drawings.ensures in
-    let waiting = rw e.keeps.kept.policy at (c.held-waiting.ensures c.play_drawings.new.under) in
-    let room = load_room S (heard_without g.W.Recorder) (heard-joined g.W.Recorder g.met.W.Recorder.joined no_bytes) policy c.requires.set.accepted c.args.count (first_drawing c.args.seed) _ _ c.requires.short c.new-self.ensures c.requires.room.pushes c.requires.room.departures e.ok c.requires.stands in
-    let held = load_held S (heard_without g.W.Recorder) (heard-joined g.W.Recorder g.met.W.Recorder.joined no_bytes) policy c.requires.set.accepted c.args.count (first_drawing c.args.seed) _ _ c.held-waiting.result c.requires.short e.ok c.requires.stands waiting in
-    omega (arith, room.events, held)
+    record { departures = omega (arith, room.departures_fit, held); events = omega (arith, room.events, held) }
 
 pub returns-in_err-depart_some-clause-err : goal.returns-in_err-depart_some-clause-err
 returns-in_err-depart_some-clause-err g c =

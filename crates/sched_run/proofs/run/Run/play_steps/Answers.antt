@@ -4,14 +4,15 @@ use Rattle.sched_run.proofs.FrameLaws.{continues_then, keeps_then}
 use Rattle.events_core.specs.declared.step.Step.TheVariants.{Arrive}
 use Rattle.sched_run.proofs.StepLaws.{if_ok_turned, on_err_given}
 use Rattle.sched_run.proofs.AgendaLaws.{run_none, run_over, run_stops_amid, run_goes, run_ends, run_stops, run_ready, run_room}
-use Rattle.sched_run.proofs.CourseLaws.{step_goes, step_ends, step_stops, no_step}
+use Rattle.sched_run.proofs.CourseLaws.{short_step, step_goes, step_ends, step_stops, no_step}
 use Rattle.sched_run.proofs.HeardLaws.{heard-joined, heard_gives, turns_so, amid_so}
+use Rattle.events_core.specs.Script.{most_count}
 use Rattle.sched_run.proofs.run.Run.play_steps.Goals as goal
 
 pub loop-step-init : goal.loop-step-init
 loop-step-init g c = record {
   run = run_none g.C.Scheduler (heard g.W.Recorder (g.P.Packets.captures c.args.packets.now c.args.source.now)) (heard-joined g.W.Recorder g.met.W.Recorder.joined (g.P.Packets.captures c.args.packets.now c.args.source.now)) (g.C.Scheduler.policy c.args.self.now.scheduler) (script_agenda (g.C.Scheduler.policy c.args.self.now.scheduler) c.args.steps.now) (counts_of c.args.steps.now) _ _ _ _ _ _ _ _;
-  further = record { ready = c.requires.feeds.ready; known = λ bytes are. are; given = refl; few = c.requires.counts.few };
+  further = record { ready = c.requires.begins.feeds.ready; known = λ bytes are. are; given = refl; few = c.requires.begins.counts.few };
   kept = record { policy = refl; origin = refl; names = refl; version = refl; room = refl };
   fewer = omega arith;
   kept_sink = sink-same _ _ _;
@@ -23,13 +24,16 @@ pub play_step-requires-clause-stands : goal.play_step-requires-clause-stands
 play_step-requires-clause-stands g c =
     let S = g.C.Scheduler in
     let i = c.loop-step.invariant in
-    rw i.kept.policy (run_ready S (heard g.W.Recorder (g.P.Packets.captures c.args.packets.now c.args.source.now)) (heard-joined g.W.Recorder g.met.W.Recorder.joined (g.P.Packets.captures c.args.packets.now c.args.source.now)) (S.policy c.args.self.now.scheduler) c.requires.set.accepted _ _ _ _ _ _ _ _ i.further.given i.further.few c.requires.fresh c.requires.short c.requires.stands i.run)
+    rw i.kept.policy (run_ready S (heard g.W.Recorder (g.P.Packets.captures c.args.packets.now c.args.source.now)) (heard-joined g.W.Recorder g.met.W.Recorder.joined (g.P.Packets.captures c.args.packets.now c.args.source.now)) (S.policy c.args.self.now.scheduler) c.requires.set.accepted _ _ _ _ _ _ _ _ i.further.given i.further.few c.requires.begins.fresh c.requires.short c.requires.stands i.run)
 
 pub play_step-requires-clause-counts : goal.play_step-requires-clause-counts
 play_step-requires-clause-counts g c =
     let S = g.C.Scheduler in
     let i = c.loop-step.invariant in
-    run_room S (heard g.W.Recorder (g.P.Packets.captures c.args.packets.now c.args.source.now)) (heard-joined g.W.Recorder g.met.W.Recorder.joined (g.P.Packets.captures c.args.packets.now c.args.source.now)) (S.policy c.args.self.now.scheduler) c.requires.set.accepted _ _ _ _ _ _ _ _ i.further.given i.further.few c.requires.fresh c.requires.short c.requires.stands i.run c.requires.counts
+    record {
+      room = run_room S (heard g.W.Recorder (g.P.Packets.captures c.args.packets.now c.args.source.now)) (heard-joined g.W.Recorder g.met.W.Recorder.joined (g.P.Packets.captures c.args.packets.now c.args.source.now)) (S.policy c.args.self.now.scheduler) c.requires.set.accepted _ _ _ _ _ _ _ _ i.further.given i.further.few c.requires.begins.fresh c.requires.short c.requires.stands i.run c.requires.begins.counts;
+      short = short_step c.args.steps.now c.loop-step.step-index most_count c.requires.short;
+    }
 
 pub returns-in_err-ending-clause-err : goal.returns-in_err-ending-clause-err
 returns-in_err-ending-clause-err g c =

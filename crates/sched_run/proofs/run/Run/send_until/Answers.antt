@@ -32,19 +32,16 @@ depart_next-requires-clause-stands g c =
     rw i.kept.policy (sends_stand g.C.Scheduler (heard_anyway g.W.Recorder) (heard-joined g.W.Recorder g.met.W.Recorder.joined any_bytes) (g.C.Scheduler.policy c.args.self.now.scheduler) c.requires.set.accepted c.args.rate c.args.until _ _ _ (c.held-held.ensures c.args.under.now) _ _ _ refl i.came (i.sends one.has.number)
     (record { state = one.state; sound = one.sound; stood = one.stood; has = held_more _ _ one.has.below }))
 
-pub depart_next-requires-clause-few : goal.depart_next-requires-clause-few
-depart_next-requires-clause-few g c =
+pub depart_next-requires-clause-room : goal.depart_next-requires-clause-room
+depart_next-requires-clause-room g c =
     let i = c.loop-sent.invariant in
     let one = c.requires.stands in
     let asked = sends_asked g.C.Scheduler (heard_anyway g.W.Recorder) (heard-joined g.W.Recorder g.met.W.Recorder.joined any_bytes) (g.C.Scheduler.policy c.args.self.now.scheduler) c.requires.set.accepted c.args.rate c.args.until _ _ _ (c.held-held.ensures c.args.under.now) _ _ _ refl i.came (i.sends one.has.number)
     (record { state = one.state; sound = one.sound; stood = one.stood; has = held_more _ _ one.has.below }) in
-    omega (arith, asked, i.asked, c.loop-sent-test.true, c.held-held.ensures c.args.under.now one.state one.sound one.stood, one.has.few, c.requires.paced.counts.departures_fit)
-
-pub depart_next-requires-clause-events : goal.depart_next-requires-clause-events
-depart_next-requires-clause-events g c =
-    let i = c.loop-sent.invariant in
-    let one = c.requires.stands in
-    omega (arith, i.came, i.asked, c.loop-sent-test.true, c.held-held.ensures c.args.under.now one.state one.sound one.stood, one.has.few, c.requires.paced.counts.few_came)
+    record {
+      departures = omega (arith, asked, i.asked, c.loop-sent-test.true, c.held-held.ensures c.args.under.now one.state one.sound one.stood, one.has.few, c.requires.paced.counts.departures_fit);
+      events = omega (arith, i.came, i.asked, c.loop-sent-test.true, c.held-held.ensures c.args.under.now one.state one.sound one.stood, one.has.few, c.requires.paced.counts.few_came);
+    }
 
 pub take_time-requires-clause-early : goal.take_time-requires-clause-early
 take_time-requires-clause-early g c =
@@ -71,12 +68,12 @@ loop-sent-preserved g c =
     record {
       sends = λ given. sends_goes g.C.Scheduler (heard_anyway g.W.Recorder) (heard-joined g.W.Recorder g.met.W.Recorder.joined any_bytes) (g.C.Scheduler.policy c.args.self.now.scheduler) c.requires.set.accepted c.args.rate c.args.until _ _ _ (c.held-held.ensures c.args.under.now) _ _ _ refl i.came (i.sends given)
           c.loop-sent-test.true (sym due) _ _ _ value c.take_time.ensures.time (made given);
-      came = e.came ∙ i.came;
-      dropped = e.dropped ∙ i.dropped;
-      asked = omega (arith, e.asked, i.asked);
-      early = omega (arith, i.early, e.asked, c.take_time.ensures.soon);
+      came = e.counts.came ∙ i.came;
+      dropped = e.counts.dropped ∙ i.dropped;
+      asked = omega (arith, e.counts.asked, i.asked);
+      early = omega (arith, i.early, e.counts.asked, c.take_time.ensures.soon);
       kept = continues_then g.C.Scheduler _ _ _ i.kept e.keeps.kept;
-      fewer = omega (arith, i.fewer, e.fewer);
+      fewer = omega (arith, i.fewer, e.keeps.fewer);
       kept_sink = sink-then _ _ _ _ _ i.kept_sink e.keeps.kept_sink;
       going = sym c.over.ensures ∙ c.if-over.false;
       live = e.keeps.live;
@@ -94,27 +91,28 @@ returns-then-over-clause-ok g c =
 pub returns-then-over-clause-paces : goal.returns-then-over-clause-paces
 returns-then-over-clause-paces g c =
     let i = c.loop-sent.invariant in
-    record { over = sym c.over.ensures ∙ c.if-over.true; early = omega (arith, i.early, c.in_ok-departed.ensures.asked, c.take_time.ensures.soon) }
+    record { over = sym c.over.ensures ∙ c.if-over.true; early = omega (arith, i.early, c.in_ok-departed.ensures.counts.asked, c.take_time.ensures.soon) }
 
-pub returns-then-over-clause-few : goal.returns-then-over-clause-few
-returns-then-over-clause-few g c =
+pub returns-then-over-clause-counts : goal.returns-then-over-clause-counts
+returns-then-over-clause-counts g c =
     let i = c.loop-sent.invariant in
     let one = c.requires.stands in
-    omega (arith, i.asked, c.in_ok-departed.ensures.asked, c.loop-sent-test.true, c.held-held.ensures c.args.under.now one.state one.sound one.stood, one.has.few)
+    let e = c.in_ok-departed.ensures in
+    record { came = e.counts.came ∙ i.came; dropped = e.counts.dropped ∙ i.dropped; asked = omega (arith, i.asked, c.in_ok-departed.ensures.counts.asked, c.loop-sent-test.true, c.held-held.ensures c.args.under.now one.state one.sound one.stood, one.has.few) }
 
 pub returns-clause-ok : goal.returns-clause-ok
 returns-clause-ok g c =
     let i = c.loop-sent.invariant in
     λ given. sends_over g.C.Scheduler (heard_anyway g.W.Recorder) (heard-joined g.W.Recorder g.met.W.Recorder.joined any_bytes) (g.C.Scheduler.policy c.args.self.now.scheduler) c.requires.set.accepted c.args.rate c.args.until _ _ _ (c.held-held.ensures c.args.under.now) _ _ _ refl i.came (i.sends given) (omega arith)
 
-pub returns-clause-few : goal.returns-clause-few
-returns-clause-few g c =
+pub returns-clause-counts : goal.returns-clause-counts
+returns-clause-counts g c =
     let i = c.loop-sent.invariant in
     let one = c.requires.stands in
-    omega (arith, i.asked, c.held-held.ensures c.args.under.now one.state one.sound one.stood, one.has.few)
+    record { came = i.came; dropped = i.dropped; asked = omega (arith, i.asked, c.held-held.ensures c.args.under.now one.state one.sound one.stood, one.has.few) }
 
-pub returns-then-not-is_due-clause-few : goal.returns-then-not-is_due-clause-few
-returns-then-not-is_due-clause-few g c =
+pub returns-then-not-is_due-clause-counts : goal.returns-then-not-is_due-clause-counts
+returns-then-not-is_due-clause-counts g c =
     let i = c.loop-sent.invariant in
     let one = c.requires.stands in
-    omega (arith, i.asked, c.loop-sent-test.true, c.held-held.ensures c.args.under.now one.state one.sound one.stood, one.has.few)
+    record { came = i.came; dropped = i.dropped; asked = omega (arith, i.asked, c.loop-sent-test.true, c.held-held.ensures c.args.under.now one.state one.sound one.stood, one.has.few) }
