@@ -43,7 +43,7 @@ const CHECK: &str = "\
 zovatsemo check POLICY [--upgrade]
 
 Reports the first error of a policy, with its line, or prints the policy's canonical text. With --upgrade it prints a policy
-of version 1 or 2 as one of version 3, which has the same meaning.
+of version 1 or 2 as one of version 3.
 
     zovatsemo check examples/office/policy
 ";

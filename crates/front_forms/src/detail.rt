@@ -175,7 +175,8 @@ fn policy_detail(alloc: Global, error: Error<'_>) -> Result<Option<Detail>, Allo
             }
         }
         _ => {
-            let entries = entries(alloc, error.text)?;
+            let edition = edition_of(alloc, error.text)?;
+            let entries = entries(alloc, error.text, edition)?;
             rule_detail(alloc, error, &entries)
         }
     }
@@ -188,7 +189,10 @@ pub fn detail_of(alloc: Global, error: Error<'_>) -> Result<Option<Detail>, Allo
         (FaultKind::Policy, _) => policy_detail(alloc, error),
         (FaultKind::Script, 1) => break_detail(alloc, error, Edition::Classic, Place::Step),
         (FaultKind::Script, 2) => count_detail(alloc, error),
-        (FaultKind::Map, 2) => break_detail(alloc, error, Edition::Classic, Place::Map),
+        (FaultKind::Map, 2) => {
+            let edition = edition_of(alloc, error.policy)?;
+            break_detail(alloc, error, edition, Place::Map)
+        }
         (FaultKind::Map, 3..=8) => map_detail(alloc, error),
         (FaultKind::Tree, 2) => match break_detail(alloc, error, Edition::Classic, Place::Tree)? {
             Some(detail) => Ok(Some(detail)),

@@ -5,7 +5,8 @@ use crate::expected::say_quoted;
 use crate::near::say_nearest;
 use crate::rules::{at_word, nodes_of};
 use crate::wording::{say, say_number, say_thousands};
-use crate::words::{Entry, Word, bytes_of, entries};
+use crate::words::{Entry, Word, bytes_of, edition_of, entries};
+use policy_text_defs::Edition;
 use std::alloc::{AllocError, Global};
 
 /// Returns the address of a map's line.
@@ -35,7 +36,8 @@ fn expected(code: u64) -> &'static str {
 
 /// Returns the place of an error in a line of a map. Fails if out of memory.
 pub fn map_detail(alloc: Global, error: Error<'_>) -> Result<Option<Detail>, AllocError> {
-    let entries = entries(alloc, error.text)?;
+    let edition = edition_of(alloc, error.policy)?;
+    let entries = entries(alloc, error.text, edition)?;
     let mut message = Vec::new(alloc);
     for entry in entries.as_slice() {
         if entry.line == error.line {
@@ -135,7 +137,7 @@ fn say_tree(
 
 /// Returns what is wrong with a topology all of whose lines have trees. Fails if out of memory.
 pub fn tree_detail(alloc: Global, error: Error<'_>) -> Result<Option<Detail>, AllocError> {
-    let entries = entries(alloc, error.text)?;
+    let entries = entries(alloc, error.text, Edition::Classic)?;
     let mut message = Vec::new(alloc);
     let Some(first) = entries.first() else {
         say(&mut message, "expected one tree on one line, found none")?;

@@ -4,7 +4,7 @@ use crate::expected::say_quoted;
 use crate::listed::{class_detail, orphan_detail};
 use crate::near::say_nearest;
 use crate::wording::{say, say_around, say_number};
-use crate::words::{Entry, Word, bytes_of, entries};
+use crate::words::{Entry, Word, bytes_of, edition_of, entries};
 use policy_text_defs::name_of;
 use std::alloc::{AllocError, Global};
 use std::collections::BTreeSet;
@@ -169,7 +169,8 @@ fn declared<'a>(
 
 /// Returns the names of the nodes and leaves of the policy that an error's text is for.
 pub fn nodes_of<'a>(alloc: Global, error: Error<'a>) -> Result<Vec<&'a str>, AllocError> {
-    let entries = entries(alloc, error.policy)?;
+    let edition = edition_of(alloc, error.policy)?;
+    let entries = entries(alloc, error.policy, edition)?;
     let policy = Error {
         text: error.policy,
         ..error

@@ -3,6 +3,7 @@ use crate::detail::{Detail, Error};
 use crate::rules::at_word;
 use crate::wording::{say, say_thousands};
 use crate::words::{Entry, entries};
+use policy_text_defs::Edition;
 use std::alloc::{AllocError, Global};
 use text_core::decimal;
 
@@ -16,7 +17,7 @@ fn count_of(text: &[u8], entry: &Entry) -> u64 {
 
 /// Returns the line of a script up to which too many packets are counted.
 pub fn count_detail(alloc: Global, error: Error<'_>) -> Result<Option<Detail>, AllocError> {
-    let entries = entries(alloc, error.text)?;
+    let entries = entries(alloc, error.text, Edition::Classic)?;
     let mut sum: u64 = 0;
     for entry in entries.as_slice() {
         sum = sum.saturating_add(count_of(error.text, entry));

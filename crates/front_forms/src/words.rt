@@ -87,9 +87,8 @@ fn words(
     Ok(found)
 }
 
-/// Returns the lines of a text that have words.
-pub fn entries(alloc: Global, text: &[u8]) -> Result<Vec<Entry>, AllocError> {
-    let edition = edition_of(alloc, text)?;
+/// Returns the lines of a text that have words, split as in this edition. Fails if out of memory.
+pub fn entries(alloc: Global, text: &[u8], edition: Edition) -> Result<Vec<Entry>, AllocError> {
     let lines = lines(alloc, text)?;
     let mut found = Vec::new(alloc);
     let mut line: u64 = 0;

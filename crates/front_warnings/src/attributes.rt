@@ -1,6 +1,6 @@
 //! Attributes without effect.
 use crate::notes::Notes;
-use crate::reads::{NoMemory, Readers, Reads};
+use crate::reads::{NOTHING, NoMemory, Readers, Reads};
 use list_core::Name;
 use policy_text_defs::{Attrs, Statement};
 use std::alloc::Global;
@@ -120,12 +120,7 @@ fn warn_unread(
 /// Adds a warning for each attribute of the root, which has no parent.
 fn warn_root(alloc: Global, notes: &mut Notes<'_>, written: &Written<'_>) -> Result<(), NoMemory> {
     let name = written.name;
-    let unread = Reads {
-        prio: false,
-        weight: false,
-        slack: false,
-    };
-    for (attribute, is_written, _) in listed(written.attrs, unread) {
+    for (attribute, is_written, _) in listed(written.attrs, NOTHING) {
         if is_written {
             let what = format!(in alloc;
                 "{attribute} of {name} has no effect: no node is above it"

@@ -10,6 +10,7 @@ mod counts;
 mod damage;
 mod divisors;
 mod findings;
+mod groups;
 mod links;
 mod notes;
 mod policies;

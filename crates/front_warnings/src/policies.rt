@@ -1,5 +1,6 @@
 //! Warnings about a policy.
 use crate::attributes::warn_of_attributes;
+use crate::groups::warn_of_groups;
 use crate::notes::Notes;
 use crate::prefixes::warn_of_prefixes;
 use crate::reach::{classes_of, warn_of_reach};
@@ -13,7 +14,8 @@ fn warn(alloc: Global, notes: &mut Notes<'_>, lines: &Lines) -> Result<(), NoMem
     let classes = classes_of(alloc, entries)?;
     warn_of_reach(alloc, notes, &classes)?;
     warn_of_prefixes(alloc, notes, entries)?;
-    warn_of_attributes(alloc, notes, entries)
+    warn_of_attributes(alloc, notes, entries)?;
+    warn_of_groups(alloc, notes, entries)
 }
 
 /// Returns the warnings about the policy of these statements, from the file of this name. Fails if

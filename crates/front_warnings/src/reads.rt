@@ -1,14 +1,16 @@
-//! The attributes that transactions read.
+//! The attributes that transactions read, and whether they keep variables for each flow.
 use policy_text_defs::{Statement, Term};
 use std::alloc::{AllocError, AllocFailed, Global};
 use std::collections::BTreeMap;
 
-/// Which attributes of a child or class a transaction reads.
+/// Which attributes of a child or class a transaction reads, and whether it declares variables for
+/// each child or flow.
 #[derive(Clone, Copy, PartialEq, Eq, Debug)]
 pub struct Reads {
     pub prio: bool,
     pub weight: bool,
     pub slack: bool,
+    pub flows: bool,
 }
 
 /// Out of memory.
@@ -27,19 +29,27 @@ impl<T: Drop> From<AllocFailed<T>> for NoMemory {
     }
 }
 
-const NOTHING: Reads = Reads {
+/// What a transaction reads that has no lines.
+pub const NOTHING: Reads = Reads {
     prio: false,
     weight: false,
     slack: false,
+    flows: false,
+};
+
+const FLOWS: Reads = Reads {
+    flows: true,
+    ..NOTHING
 };
 
 impl Reads {
-    /// Returns the attributes that one of two reads.
+    /// Returns what one of two reads.
     fn or(self, other: Reads) -> Reads {
         Reads {
             prio: self.prio || other.prio,
             weight: self.weight || other.weight,
             slack: self.slack || other.slack,
+            flows: self.flows || other.flows,
         }
     }
 }
@@ -50,6 +60,7 @@ fn reads_of_word(word: &str) -> Reads {
         prio: word == "prio",
         weight: word == "weight",
         slack: word == "slack",
+        flows: false,
     }
 }
 
@@ -66,16 +77,17 @@ fn reads_of_term(term: &Term) -> Reads {
     }
 }
 
-/// Returns the attributes that a built-in transaction reads.
+/// Returns what a built-in transaction reads.
 fn reads_built_in(name: &str) -> Reads {
     Reads {
         prio: name == "strict",
         weight: name == "stfq",
         slack: name == "lstf",
+        flows: name == "stfq" || name == "rr",
     }
 }
 
-/// The attributes that each transaction of a policy reads, by its name.
+/// What each transaction of a policy reads, by its name.
 #[derive(Drop)]
 pub struct Readers<'a> {
     places: BTreeMap<&'a str, usize>,
@@ -92,7 +104,10 @@ impl<'a> Readers<'a> {
         for entry in entries {
             match &entry.1 {
                 Statement::Transaction(name) => readers.begin(name.as_str())?,
-                Statement::Push(_, term) | Statement::Pop(_, term) => readers.add(term),
+                Statement::Each(_, _) => readers.add(FLOWS),
+                Statement::Push(_, term) | Statement::Pop(_, term) => {
+                    readers.add(reads_of_term(term))
+                }
                 _ => (),
             }
         }
@@ -106,10 +121,10 @@ impl<'a> Readers<'a> {
         Ok(())
     }
 
-    /// Adds what an expression of the last transaction reads.
-    fn add(&mut self, term: &Term) {
+    /// Adds what a line of the last transaction reads.
+    fn add(&mut self, reads: Reads) {
         if let Some(last) = self.reads.last_mut() {
-            *last = last.or(reads_of_term(term));
+            *last = last.or(reads);
         }
     }
 
