@@ -9,8 +9,8 @@ pub use Rattle.std.specs.List.Sorted.{IsPermutation}
 pub use Rattle.std.specs.Vec.{with_items}
 pub use Rattle.std.specs.declared.cmp.Reverse.{Reverse}
 pub use Rattle.embed_defs.specs.Family.{IsLeafAddress, Pops, less_room_along, push_along}
-pub use Rattle.fabric_core.proofs.FabricLaws.{new_empty, new_sound, few_kept, nodes_kept, popped_queues, popped_sound, pushed_queues, pushed_sound, root_queue, root_within}
-pub use Rattle.fabric_core.specs.Array.{flows_at, nodes, queues_at, ArrayTakesRoom, array_pop, array_push, room_at}
+pub use Rattle.fabric_core.proofs.FabricLaws.{new_empty, new_sound, few_kept, nodes_kept, pushed_queues, pushed_sound}
+pub use Rattle.fabric_core.specs.Array.{flows_at, nodes, queues_at, ArrayKeepsRoom, ArrayTakesRoom, array_push, room_at}
 pub use Rattle.fabric_core.specs.Flow.{HasFlows, IsFlow, NamesBelow}
 pub use Rattle.tree_defs.specs.Queue.{put, take_least, Queue}
 pub use Rattle.block_core.specs.Arrival.{weight, Precedes, came_as, in_order, pair, coming}

@@ -200,10 +200,6 @@ impl NodeQueue for BlockPifo {
     fn pop_pair(&mut self) -> Option<(u64, u64)> {
         self.pop()
     }
-
-    fn is_empty(&self) -> bool {
-        self.len() == 0
-    }
 }
 
 /// Returns the flow of a value, out of `flows`. A value without a flow of its own goes to the last

@@ -2,7 +2,7 @@
 ghost use Rattle.std.specs.Prelude.{◌≡◌, IfOk};
 
 use crate::block::BlockPifo;
-use fabric_core::{Fabric, NodeQueue, empty_queues, pop_along, push_along, reserve_along};
+use fabric_core::{Fabric, empty_queues, pop_along, push_along, reserve_along};
 use std::alloc::{AllocError, Global};
 use std::marker::Model;
 
@@ -94,10 +94,7 @@ impl Fabric for BlockFabric {
 
     fn pop(&mut self, digits: &mut [u32], ranks: &mut [u64]) -> Option<u64> {
         self.popped += 1;
-        if self.queues[0].is_empty() {
-            return None;
-        }
-        Some(pop_along(&mut self.queues, &self.arities, digits, ranks))
+        pop_along(&mut self.queues, &self.arities, digits, ranks)
     }
 
     fn pushes(&self) -> u64 {

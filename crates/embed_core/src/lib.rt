@@ -3,15 +3,13 @@
 #![tactic(auto)]
 
 mod block;
-mod leaf_table;
 mod lifted_path;
 mod map;
 mod needs;
 mod order;
 mod way;
 
-pub use leaf_table::LeafTable;
-pub use lifted_path::LiftedPath;
+pub use lifted_path::{LeafTable, LiftedPath};
 pub use map::{EmbedFault, Map, embed, least_height, lift, pick};
 pub use target_core::{Target, TargetFault, read_target};
 pub use way::Way;

@@ -1,11 +1,13 @@
-//! Paths to leaves, lifted into a target in advance.
-ghost use Rattle.std.specs.Prelude.{◌≡◌, ◌+◌, ◌<◌, ◌≤◌, length, map, slice_index, IfOk};
+//! Paths to leaves, lifted into a target in advance, and a table to find them by their images.
+ghost use Rattle.std.specs.Prelude.{◌≡◌, ◌+◌, ◌<◌, ◌≤◌, ℕ, length, map, slice_get, slice_index, IfOk, IfSome, Some};
 ghost use Rattle.std.specs.List.{AllByRecursion};
-ghost use Rattle.tree_defs.specs.Tree.{LeadsToLeaf};
+ghost use Rattle.tree_defs.specs.Tree.{LeadsToLeaf, depth as levels};
+ghost use Rattle.embed_defs.specs.Lift.{picked_ranks};
 ghost use Rattle.embed_defs.specs.GoodMaps.{IsGoodMap};
-ghost use Rattle.embed_core.specs.Lanes.{IsLaneTo};
+ghost use Rattle.embed_core.specs.Picks.{IsLeafImage, LeadsToImage};
+ghost use Rattle.embed_core.specs.Lanes.{IsLaneTo, AreLeafLanes};
 
-use crate::map::{Map, lift};
+use crate::map::{Map, lift, pick};
 use crate::way::Way;
 use std::alloc::{AllocError, Global};
 use tree_core::Taken;
@@ -15,7 +17,7 @@ use tree_core::Taken;
 /// image.
 #[derive(Drop)]
 pub struct LiftedPath {
-    pub(crate) image: Vec<u32>,
+    pub image: Vec<u32>,
     steps: Vec<u64>,
     address: Vec<u32>,
     depths: Vec<u64>,
@@ -46,14 +48,6 @@ impl LiftedPath {
         })
     }
 
-    /// Returns the leaf's image.
-    #[inline(always)]
-    pub fn image(&self) -> &[u32]
-        ensures image { result.now ≡ self.now.image.items }
-    {
-        &self.image
-    }
-
     /// Writes the lift of the ranks on the path to the leaf to `lifted`.
     #[inline(always)]
     pub fn lift(&self, ranks: &[u64], lifted: &mut [u64])
@@ -65,27 +59,6 @@ impl LiftedPath {
         for place in 0..lifted.len() {
             lifted[place] = ranks[steps[place] as usize];
         }
-    }
-
-    /// Writes the address of the leaf to `taken`, and for each node on the path to it, the rank at
-    /// its image's depth.
-    #[inline(always)]
-    pub fn pick(&self, ranks: &[u64], taken: &mut Taken)
-        requires within { AllByRecursion (λ depth. depth < length ranks.now) self.now.depths.items }
-        requires whole { length self.now.depths.items ≡ length self.now.address.items + 1 }
-        requires room { length self.now.address.items ≤ taken.old.room }
-        ensures digits { taken.new.digits ≡ self.now.address.items }
-        ensures ranks { taken.new.ranks ≡ map (slice_index ranks.now) self.now.depths.items }
-        ensures room { taken.new.room ≡ taken.old.room }
-    {
-        let address = self.address.as_slice();
-        let depths = self.depths.as_slice();
-        let last = address.len();
-        taken.clear();
-        for step in 0..last {
-            taken.step(address[step], ranks[depths[step] as usize]);
-        }
-        taken.last(ranks[depths[last] as usize]);
     }
 }
 
@@ -114,4 +87,107 @@ impl<'a> Way for Steps<'a> {
     fn rank(&self, step: usize) -> u64 {
         step as u64
     }
+}
+
+/// For each leaf of a target, from the left, the index of a lifted path. An index is a hint: the
+/// path may lead to another leaf.
+#[derive(Drop)]
+pub struct LeafTable {
+    arities: Vec<u32>,
+    paths: Vec<u32>,
+}
+
+impl LeafTable {
+    /// Makes a table of these paths in a target. The error means out of memory.
+    pub fn new(
+        alloc: Global,
+        arities: &[u32],
+        paths: &[LiftedPath],
+    ) -> Result<LeafTable, AllocError> {
+        let mut table = vec![in alloc; 0; leaf_count(arities)]?;
+        for (index, path) in paths.iter().enumerate() {
+            let place = leaf_place(arities, &path.image);
+            if let (Some(entry), Ok(index)) = (table.get_mut(place), u32::try_from(index)) {
+                *entry = index;
+            }
+        }
+        Ok(LeafTable {
+            arities: arities.to_vec(alloc)?,
+            paths: table,
+        })
+    }
+
+    /// Returns the path with this image among the paths of the table.
+    #[inline(always)]
+    fn find<'a>(&self, paths: &'a [LiftedPath], image: &[u32]) -> Option<&'a LiftedPath>
+        ensures image { IfSome result (λ path. path.now.image.items ≡ image.now) }
+        ensures among { IfSome result (λ path. (n : ℕ) × (slice_get paths.now n ≡ Some path.now)) }
+    {
+        let index = *self.paths.get(leaf_place(&self.arities, image))?;
+        let path = paths.get(index as usize)?;
+        let own = path.image.as_slice();
+        if own.len() != image.len() {
+            return None;
+        }
+        for level in 0..own.len() {
+            if own[level] != image[level] {
+                return None;
+            }
+        }
+        Some(path)
+    }
+
+    /// Writes the address of the leaf with an image to `taken`, and for each node on the path to it,
+    /// the rank at its image's depth. If the table has no path to the leaf, the map is searched.
+    #[inline(always)]
+    pub fn pick(
+        &self,
+        map: &Map,
+        paths: &[LiftedPath],
+        digits: &[u32],
+        ranks: &[u64],
+        taken: &mut Taken,
+    )
+        requires good { IsGoodMap (length digits.now) map.now }
+        requires paths { AreLeafLanes map.now paths.now }
+        requires leaf { IsLeafImage map.now digits.now }
+        requires ranks { length ranks.now ≡ length digits.now + 1 }
+        requires room { levels map.now ≤ taken.old.room }
+        ensures leads { LeadsToImage map.now digits.now taken.new.digits }
+        ensures ranks { taken.new.ranks ≡ picked_ranks map.now taken.new.digits ranks.now }
+        ensures room { taken.new.room ≡ taken.old.room }
+    {
+        let Some(path) = self.find(paths, digits) else {
+            return pick(map, digits, ranks, taken);
+        };
+        let address = path.address.as_slice();
+        let depths = path.depths.as_slice();
+        let last = address.len();
+        taken.clear();
+        for step in 0..last {
+            taken.step(address[step], ranks[depths[step] as usize]);
+        }
+        taken.last(ranks[depths[last] as usize]);
+    }
+}
+
+/// Returns how many leaves a target with these arities has.
+fn leaf_count(arities: &[u32]) -> usize {
+    let mut count: usize = 1;
+    for arity in arities {
+        count = count.wrapping_mul(*arity as usize);
+    }
+    count
+}
+
+/// Returns how many leaves of a target are to the left of the leaf with these digits.
+#[inline(always)]
+fn leaf_place(arities: &[u32], digits: &[u32]) -> usize {
+    let mut place: usize = 0;
+    for (arity, digit) in arities.iter().zip(digits) {
+        place = place
+            .wrapping_mul(*arity as usize)
+            .wrapping_add(*digit as usize);
+    }
+    place
 }

@@ -4,7 +4,10 @@ use Rattle.fabric_core.proofs.ArrayReads.{read-root}
 use Rattle.fabric_core.proofs.FlowLaws.{names-taken, child-waits}
 use Rattle.fabric_core.proofs.PopLaws.{queues-child, flow-child}
 use Rattle.fabric_core.proofs.LevelWalks.{IsAt, at_index, at_child}
-use Rattle.fabric_core.proofs.ArrayUpdates.{entries-at, entries-set}
+use Rattle.fabric_core.proofs.ArrayUpdates.{entries-at, entries-set, entries_stay}
+use Rattle.fabric_core.specs.Paths.{PopsNothing}
+use Rattle.std.proofs.Math.Nat.{eq-or-lt_of_le}
+use Rattle.std.proofs.Common.{inl, inr, ◌≤◌}
 
 -- the pop, given that its first digits and ranks were popped before
 abbrev pub resumed : List ℕ → List ℕ → Popping (List Queue) → Popping (List Queue)
@@ -20,28 +23,39 @@ resumed-none : (o : Option (Popping (List Queue))) → option_map (resumed [] []
 resumed-none None = refl
 resumed-none (Some r) = refl
 
--- the rest of the pop, from the node reached, is the whole pop, and there is something to pop
+-- the rest of the pop, from the node reached, is the whole pop, and below the root there is something
+-- to pop
 pub record IsPopping {Q : Type 0} (node : Ghosts Q) (arities : List ℕ) (old now : List Q) (digits ranks : List ℕ) (level begin width place : ℕ) : Type 0 where
   pub here : IsAt arities (length now) level begin width place
   pub count : length now ≡ length old
   pub digits_long : length digits ≡ length arities
   pub ranks_long : length ranks ≡ length arities + 1
   pub flow : IsFlow (drop level arities) (queues_at (drop level arities) (map node.entries now) begin width place)
-  pub some : get_or (map node.entries now) (begin + place) [] ≢ []
+  pub some : 0 < level → get_or (map node.entries now) (begin + place) [] ≢ []
   pub popping : option_map (resumed (take level digits) (take level ranks)) (array_pop (drop level arities) (map node.entries now) begin width place) ≡ array_pop arities (map node.entries old) 0 1 0
   pub pushes : map node.pushes now ≡ map node.pushes old
 
+-- nothing was popped yet
+pub record IsFirst {Q : Type 0} (old now : List Q) (digits digits_now ranks ranks_now : List ℕ) (begin place : ℕ) : Type 0 where
+  pub root : begin + place ≡ 0
+  pub queues : now ≡ old
+  pub digits_are : digits_now ≡ digits
+  pub ranks_are : ranks_now ≡ ranks
+
+pub not_first : {Q : Type 0} (old now : List Q) (digits digits_now ranks ranks_now : List ℕ) (level begin place : ℕ) → level + 1 ≡ 0 → IsFirst old now digits digits_now ranks ranks_now begin place
+not_first old now digits digits_now ranks ranks_now level begin place none = absurd (omega (arith, none))
+
 module _ {Q : Type 0} (node : Ghosts Q) where
   pub popping_first : (arities : List ℕ) (old : List Q) (digits ranks : List ℕ) → nodes arities ≡ length old → length digits ≡ length arities → length ranks ≡ length arities + 1
-      → IsFlow arities (queues_at arities (map node.entries old) 0 1 0) → queues_at arities (map node.entries old) 0 1 0 [] ≢ [] → IsPopping node arities old old digits ranks 0 0 1 0
-  popping_first arities old digits ranks count ld lr flow some =
+      → IsFlow arities (queues_at arities (map node.entries old) 0 1 0) → IsPopping node arities old old digits ranks 0 0 1 0
+  popping_first arities old digits ranks count ld lr flow =
       record {
         here = record { within = omega arith; counted = omega (arith, count) };
         count = refl;
         digits_long = ld;
         ranks_long = lr;
         flow = flow;
-        some = λ e. some (read-root arities (map node.entries old) [] 0 1 0 ∙ e);
+        some = λ below. absurd (omega (arith, below));
         popping = resumed-none (array_pop arities (map node.entries old) 0 1 0);
         pushes = refl;
       }
@@ -79,7 +93,7 @@ module _ {Q : Type 0} (node : Ghosts Q) where
         ranks_long = length-set ranks level t.rank ∙ s.ranks_long;
         flow = subst (λ (z : List Queue). IsFlow (drop (level + 1) arities) (queues_at (drop (level + 1) arities) z (begin + width) (width * get_or arities level 0) (place * get_or arities level 0 + t.value))) after
             (flow-child (get_or arities level 0) (drop (level + 1) arities) (map node.entries now) t.rest begin width place (begin + place) t.value (omega arith) m flow);
-        some = λ none. child-waits (get_or arities level 0) (drop (level + 1) arities) (queues_at (get_or arities level 0 ∷ drop (level + 1) arities) (map node.entries now) begin width place) t flow p
+        some = λ _ none. child-waits (get_or arities level 0) (drop (level + 1) arities) (queues_at (get_or arities level 0 ∷ drop (level + 1) arities) (map node.entries now) begin width place) t flow p
             (ap (λ (F : Family). F []) (queues-child (get_or arities level 0) (drop (level + 1) arities) (map node.entries now) t.rest begin width place (begin + place) t.value (omega arith) m)
             ∙ read-root (drop (level + 1) arities) (set (map node.entries now) (begin + place) t.rest) [] (begin + width) (width * get_or arities level 0) (place * get_or arities level 0 + t.value)
             ∙ ap (λ (z : List Queue). get_or z ((begin + width) + (place * get_or arities level 0 + t.value)) []) after ∙ none);
@@ -115,3 +129,24 @@ module _ {Q : Type 0} (node : Ghosts Q) where
       ∙ ap (λ (z : List ℕ). Some (record { value = t.value; digits = z; ranks = take level ranks ++ t.rank ∷ []; left = set (map node.entries now) (begin + place) t.rest })) ds
       ∙ ap (λ (z : List ℕ). Some (record { value = t.value; digits = digits; ranks = z; left = set (map node.entries now) (begin + place) t.rest })) rs
       ∙ ap (λ (z : List Queue). Some (record { value = t.value; digits = digits; ranks = set ranks end t.rank; left = z })) after
+
+  -- an empty queue is the root's
+  pub popped_none : (arities : List ℕ) (old now : List Q) (digits digits_now ranks ranks_now : List ℕ) (level begin width place : ℕ) (c e : Q) → IsPopping node arities old now digits_now ranks_now level begin width place
+      → (level ≡ 0 → IsFirst old now digits digits_now ranks ranks_now begin place)
+      → node.entries (get_or now (begin + place) e) ≡ [] → node.entries c ≡ []
+      → PopsNothing arities (map node.entries old) (map node.entries (set now (begin + place) c)) digits digits_now ranks ranks_now
+  popped_none arities old now digits digits_now ranks ranks_now level begin width place c e s first none rest =
+      let within : begin + place < length now = at_index arities (length now) level begin width place s.here in
+      let low : 0 ≤ level = omega arith in
+      let empty : get_or (map node.entries now) (begin + place) [] ≡ [] = entries-at node now (begin + place) e within ∙ none in
+      elim (eq-or-lt_of_le low) [
+        | inl zero_is ↦
+            let f : IsFirst old now digits digits_now ranks ranks_now begin place = first (sym zero_is) in
+            record {
+              empty = read-root arities (map node.entries old) [] 0 1 0 ∙ ap (λ (n : ℕ). get_or (map node.entries old) n []) (sym f.root) ∙ ap (λ (z : List Q). get_or (map node.entries z) (begin + place) []) (sym f.queues) ∙ empty;
+              entries = entries_stay node old now (begin + place) c e (ap (λ (z : List Q). map node.entries z) f.queues) (rest ∙ sym none);
+              digits = f.digits_are;
+              ranks = f.ranks_are;
+            }
+        | inr below ↦ absurd (s.some below empty)
+      ]

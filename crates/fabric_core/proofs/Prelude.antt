@@ -15,7 +15,7 @@ pub use Rattle.tree_defs.proofs.Options.{option_bind-some, option_map-some}
 pub use Rattle.tree_defs.specs.Queue.{Queue, put, Taking, take_least, take_from}
 pub use Rattle.tree_defs.specs.SourceTree.{times}
 pub use Rattle.tree_defs.specs.Tree.{Popping, option_bind}
-pub use Rattle.fabric_core.specs.Array.{nodes, queues_at, room_at, array_pop, array_push, ArrayTakesRoom, flows_at, of_digit, of_last, put_at, read, ArrayKeepsRoom}
+pub use Rattle.fabric_core.specs.Array.{nodes, queues_at, room_at, array_pop, array_push, ArrayPops, ArrayTakesRoom, flows_at, of_digit, of_last, put_at, read, ArrayKeepsRoom}
 pub use Rattle.fabric_core.specs.Flat.{entries_of, pushes_of, Flat, flat_queues, flat_room, spare_of}
 pub use Rattle.fabric_core.specs.Flow.{IsFlow, NamesBelow, HasFlows, IsSound}
 pub use Rattle.fabric_core.specs.declared.node.NodeQueue.{Ghosts}

@@ -1,3 +1,4 @@
 pub mod Array
 pub mod Flow
 pub mod Flat
+pub mod Paths

@@ -1,8 +1,9 @@
 //! The trait of the hardware's queues: a complete tree that is configured, pushed and popped.
-ghost use Rattle.std.specs.Prelude.{◌≡◌, ◌+◌, ◌^◌, ◌<◌, ◌↔◌, ℕ, List, Option, [], length, option_map, OnOk, OnErr, IsNone, IfNone, IfSome};
-ghost use Rattle.embed_defs.specs.Family.{Address, Family, SameQueues, IsEmpty, IsLeafAddress, HasRoomAlong, SameRoom, HasNoLessRoom, less_room_along, AreRanks, Pops, push_along, PopsFrom};
+ghost use Rattle.std.specs.Prelude.{◌≡◌, ◌+◌, ◌^◌, ◌<◌, ◌↔◌, ℕ, List, Option, [], option_map, OnOk, OnErr, IsNone, IfNone, IfSome};
+ghost use Rattle.embed_defs.specs.Family.{Address, Family, SameQueues, IsEmpty, IsLeafAddress, HasRoomAlong, SameRoom, HasNoLessRoom, less_room_along, push_along, PopsFrom};
 ghost use Rattle.embed_defs.specs.Spills.{spills_along};
 ghost use Rattle.embed_defs.specs.Target.{IsTarget};
+ghost use Rattle.fabric_core.specs.Paths.{IsPath, HasPlaces, IsUnchanged, KeptByPush, KeptByPop};
 
 use std::alloc::AllocError;
 
@@ -54,37 +55,32 @@ pub trait Fabric {
     /// Pushes a rank and the next digit at each inner node on the path to a leaf, and the last rank
     /// and the item at the leaf.
     fn push(&mut self, digits: &[u32], ranks: &[u64], item: u64)
-        requires leaf { IsLeafAddress (shape self.old) digits.now }
-        requires one_more { length ranks.now ≡ length digits.now + 1 }
-        requires ranks { AreRanks ranks.now }
+        requires path { IsPath (shape self.old) digits.now ranks.now }
         requires room { HasRoomAlong (room self.old) digits.now }
         requires few { pushed self.old < 2 ^ 62 }
         ensures queues { SameQueues (queues self.new) (push_along digits.now ranks.now item
             (queues self.old)) }
         ensures less_room { SameRoom (room self.new) (less_room_along digits.now (room self.old)) }
-        ensures shape { shape self.new ≡ shape self.old }
         ensures pushed { pushed self.new ≡ pushed self.old + 1 }
-        ensures popped { popped self.new ≡ popped self.old }
         ensures spilled { spilled self.new ≡ option_map (λ n. n +
-            spills_along digits.now ranks.now (queues self.old)) (spilled self.old) };
+            spills_along digits.now ranks.now (queues self.old)) (spilled self.old) }
+        ensures rest { KeptByPush (shape self.old) (shape self.new) (popped self.old)
+            (popped self.new) };
 
     /// Pops the root's queue, then the queue that each popped digit names, down to an item. The
     /// popped digits and ranks are written to the slices.
     fn pop(&mut self, digits: &mut [u32], ranks: &mut [u64]) -> Option<u64>
-        requires digits { length digits.old ≡ length (shape self.old) }
-        requires ranks { length ranks.old ≡ length (shape self.old) + 1 }
+        requires path { HasPlaces (shape self.old) digits.old ranks.old }
         requires few { popped self.old < 2 ^ 62 }
         ensures none { IsNone result ↔ (queues self.old [] ≡ []) }
         ensures taken { IfSome result (λ item. PopsFrom (shape self.old) (queues self.old) item
             digits.new ranks.new (queues self.new)) }
-        ensures queues_stay { IfNone result (SameQueues (queues self.new) (queues self.old)) }
-        ensures digits_stay { IfNone result (digits.new ≡ digits.old) }
-        ensures ranks_stay { IfNone result (ranks.new ≡ ranks.old) }
+        ensures stays { IfNone result (IsUnchanged (queues self.old) (queues self.new) digits.old
+            digits.new ranks.old ranks.new) }
         ensures kept { HasNoLessRoom (room self.old) (room self.new) }
-        ensures shape { shape self.new ≡ shape self.old }
-        ensures pushed { pushed self.new ≡ pushed self.old }
         ensures popped { popped self.new ≡ popped self.old + 1 }
-        ensures spilled { spilled self.new ≡ spilled self.old };
+        ensures rest { KeptByPop (shape self.old) (shape self.new) (pushed self.old)
+            (pushed self.new) (spilled self.old) (spilled self.new) };
 
     /// Returns the number of pushes so far.
     fn pushes(&self) -> u64

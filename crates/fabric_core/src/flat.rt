@@ -3,7 +3,7 @@ ghost use Rattle.std.specs.Prelude.{IfOk};
 
 use crate::fabric::Fabric;
 use crate::walk::{empty_queues, pop_along, push_along, reserve_along};
-use pifo_core::{HeapPifo, Pifo};
+use pifo_core::HeapPifo;
 use std::alloc::{AllocError, Global};
 use std::marker::Model;
 
@@ -82,10 +82,7 @@ impl Fabric for FlatFabric {
     #[inline(always)]
     fn pop(&mut self, digits: &mut [u32], ranks: &mut [u64]) -> Option<u64> {
         self.popped += 1;
-        if self.queues[0].len() == 0 {
-            return None;
-        }
-        Some(pop_along(&mut self.queues, &self.arities, digits, ranks))
+        pop_along(&mut self.queues, &self.arities, digits, ranks)
     }
 
     fn pushes(&self) -> u64 {

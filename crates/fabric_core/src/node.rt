@@ -1,5 +1,5 @@
 //! The trait of a node's queue.
-ghost use Rattle.std.specs.Prelude.{◌≡◌, ◌+◌, ◌^◌, ◌<◌, ◌≤◌, ◌↔◌, ℕ, Bool, true, [], OnOk, IfOk};
+ghost use Rattle.std.specs.Prelude.{◌≡◌, ◌+◌, ◌^◌, ◌<◌, ◌≤◌, ℕ, Bool, true, [], OnOk, IfOk};
 ghost use Rattle.tree_defs.specs.Queue.{Queue, put};
 ghost use Rattle.pifo_core.specs.Taking.{Pops};
 ghost use Rattle.embed_defs.specs.Spills.{spills_for, spills_at_leaf};
@@ -65,11 +65,6 @@ pub trait NodeQueue {
         ensures pushes { pushes self.new ≡ pushes self.old }
         ensures spare { spare self.old ≤ spare self.new }
         ensures flows { flows self.new ≡ flows self.old };
-
-    /// Says whether the queue is empty.
-    #[inline(always)]
-    fn is_empty(&self) -> bool
-        ensures { (result ≡ true) ↔ (entries self.now ≡ []) };
 }
 
 impl NodeQueue for HeapPifo {
@@ -103,10 +98,5 @@ impl NodeQueue for HeapPifo {
     #[inline(always)]
     fn pop_pair(&mut self) -> Option<(u64, u64)> {
         self.pop()
-    }
-
-    #[inline(always)]
-    fn is_empty(&self) -> bool {
-        self.len() == 0
     }
 }

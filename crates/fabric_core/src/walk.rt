@@ -1,13 +1,13 @@
 //! The queues of a complete tree in an array, level after level: how they are made, and the walks
 //! from the root to a leaf. A walk has `begin` nodes before the level that it has reached, the level
 //! has `width` nodes, and the walk is at the one with index `place` of these.
-ghost use Rattle.std.specs.Prelude.{ℕ, ◌≡◌, ◌≢◌, ◌≤◌, ◌<◌, ◌+◌, ◌^◌, [], true, length, map, slice_index_or, IfOk, OnOk};
+ghost use Rattle.std.specs.Prelude.{ℕ, ◌≡◌, ◌≤◌, ◌<◌, ◌+◌, ◌^◌, [], true, length, map, slice_index_or, IfOk, OnOk, IfNone, IfSome};
 ghost use Rattle.std.specs.List.{AllByRecursion};
 ghost use Rattle.embed_defs.specs.Family.{IsLeafAddress, HasRoomAlong};
-ghost use Rattle.embed_defs.specs.Spills.{spills_along};
 ghost use Rattle.embed_defs.specs.Target.{IsTarget};
 ghost use Rattle.fabric_core.specs.Array.{nodes, queues_at, room_at, flows_at, array_push, ArrayPops, ArrayKeepsRoom, ArrayTakesRoom};
 ghost use Rattle.fabric_core.specs.Flow.{IsFlow, HasFlows};
+ghost use Rattle.fabric_core.specs.Paths.{HoldsTree, LeadsToLeaf, HasPlaces, PopsNothing, CountsSpills};
 
 use crate::node::NodeQueue;
 use std::alloc::{AllocError, Global};
@@ -20,8 +20,7 @@ pub fn reserve_along<Q: NodeQueue>(
     digits: &[u32],
 ) -> Result<(), AllocError>
     requires leaf { IsLeafAddress arities.now digits.now }
-    requires nodes { nodes arities.now ≡ length queues.old }
-    requires small { length queues.old < 2 ^ 32 }
+    requires array { HoldsTree arities.now (length queues.old) }
     ensures room { OnOk result (HasRoomAlong (room_at arities.now (map Q.spare queues.new) 0 1 0)
         digits.now) }
     ensures kept { ArrayKeepsRoom arities.now (map Q.spare queues.old) (map Q.spare queues.new) }
@@ -43,7 +42,6 @@ pub fn reserve_along<Q: NodeQueue>(
 /// Pushes a rank and the next digit at each inner node on the path to a leaf, and the last rank and
 /// the item at the leaf. Returns the number of nodes at which the push spilled, if the queues
 /// report spills.
-#[inline(always)]
 pub fn push_along<Q: NodeQueue>(
     queues: &mut [Q],
     arities: &[u32],
@@ -51,10 +49,8 @@ pub fn push_along<Q: NodeQueue>(
     ranks: &[u64],
     item: u64,
 ) -> u64
-    requires leaf { IsLeafAddress arities.now digits.now }
-    requires one_more { length ranks.now ≡ length digits.now + 1 }
-    requires nodes { nodes arities.now ≡ length queues.old }
-    requires small { length queues.old < 2 ^ 32 }
+    requires path { LeadsToLeaf arities.now digits.now ranks.now }
+    requires array { HoldsTree arities.now (length queues.old) }
     requires room { HasRoomAlong (room_at arities.now (map Q.spare queues.old) 0 1 0) digits.now }
     requires few { AllByRecursion (λ n. n < 2 ^ 62) (map Q.pushes queues.old) }
     ensures entries { map Q.entries queues.new ≡ array_push arities.now (map Q.entries queues.old) 0
@@ -63,11 +59,8 @@ pub fn push_along<Q: NodeQueue>(
         AllByRecursion (λ k. k ≤ n) (map Q.pushes queues.old) → AllByRecursion (λ k. k ≤ n + 1) (map Q.pushes queues.new) }
     ensures less_room { ArrayTakesRoom arities.now digits.now (map Q.spare queues.old)
         (map Q.spare queues.new) }
-    ensures flows { map Q.flows queues.new ≡ map Q.flows queues.old }
-    ensures spilled { HasFlows arities.now (flows_at arities.now (map Q.flows queues.old) 0 1 0) →
-        IsFlow arities.now (queues_at arities.now (map Q.entries queues.old) 0 1 0) →
-        result ≡ spills_along digits.now ranks.now (queues_at arities.now (map Q.entries queues.old) 0 1 0) }
-    ensures few_spilled { result ≤ length digits.now + 1 }
+    ensures spills { CountsSpills arities.now digits.now ranks.now (map Q.entries queues.old)
+        (map Q.flows queues.old) (map Q.flows queues.new) result }
 {
     let (mut begin, mut width, mut place) = (0, 1, 0);
     let mut spilled = 0;
@@ -83,32 +76,29 @@ pub fn push_along<Q: NodeQueue>(
     spilled + u64::from(spills)
 }
 
-/// Pops the root's queue, which has an entry, then the queue that each popped digit names, down to
-/// an item.
+/// Pops the root's queue, then the queue that each popped digit names, down to an item. Returns
+/// `None` only if the root's queue is empty.
 #[inline(always)]
 pub fn pop_along<Q: NodeQueue>(
     queues: &mut [Q],
     arities: &[u32],
     digits: &mut [u32],
     ranks: &mut [u64],
-) -> u64
-    requires digits { length digits.old ≡ length arities.now }
-    requires ranks { length ranks.old ≡ length arities.now + 1 }
-    requires nodes { nodes arities.now ≡ length queues.old }
-    requires small { length queues.old < 2 ^ 32 }
+) -> Option<u64>
+    requires path { HasPlaces arities.now digits.old ranks.old }
+    requires array { HoldsTree arities.now (length queues.old) }
     requires flow { IsFlow arities.now (queues_at arities.now (map Q.entries queues.old) 0 1 0) }
-    requires some { queues_at arities.now (map Q.entries queues.old) 0 1 0 [] ≢ [] }
-    ensures popped { ArrayPops arities.now (map Q.entries queues.old) result digits.new ranks.new
-        (map Q.entries queues.new) }
+    ensures none { IfNone result (PopsNothing arities.now (map Q.entries queues.old)
+        (map Q.entries queues.new) digits.old digits.new ranks.old ranks.new) }
+    ensures popped { IfSome result (λ item. ArrayPops arities.now (map Q.entries queues.old) item
+        digits.new ranks.new (map Q.entries queues.new)) }
     ensures pushes { map Q.pushes queues.new ≡ map Q.pushes queues.old }
     ensures kept { ArrayKeepsRoom arities.now (map Q.spare queues.old) (map Q.spare queues.new) }
     ensures flows { map Q.flows queues.new ≡ map Q.flows queues.old }
 {
     let (mut begin, mut width, mut place) = (0, 1, 0);
     for (level, arity) in arities.iter().enumerate() {
-        let Some((rank, digit)) = queues[begin + place].pop_pair() else {
-            unreachable!()
-        };
+        let (rank, digit) = queues[begin + place].pop_pair()?;
         ranks[level] = rank;
         digits[level] = digit as u32;
         let arity = *arity as usize;
@@ -116,11 +106,9 @@ pub fn pop_along<Q: NodeQueue>(
         width *= arity;
         place = place * arity + digit as usize;
     }
-    let Some((rank, item)) = queues[begin + place].pop_pair() else {
-        unreachable!()
-    };
+    let (rank, item) = queues[begin + place].pop_pair()?;
     ranks[arities.len()] = rank;
-    item
+    Some(item)
 }
 
 /// Makes an empty queue for each node of the complete tree of these arities.

@@ -1,10 +1,12 @@
 -- The fields of captured bytes whose headers are known.
-use Rattle.packet_core.proofs.Prelude.{◌∙◌, ap, arith, List, ℕ, ◌≡◌, refl, false, true, ◌+◌, ◌/◌, ◌%◌, ◌&&◌, length, Bool, if◌then◌else◌, leb, eqb, inl, inr, Option, Some, None, ipv4_fields, is_ipv4, Fields}
+use Rattle.packet_core.proofs.Prelude.{◌∙◌, sym, ap, arith, take, drop, get_or, List, ℕ, ◌≡◌, refl, false, true, ◌+◌, ◌-◌, ◌/◌, ◌%◌, ◌&&◌, length, Bool, if◌then◌else◌, leb, eqb, inl, inr, Option, Some, None, take_rest, ipv4_fields, ipv6_fields, is_ipv4, Fields}
 use Rattle.packet_defs.specs.Ethernet.{tag_at, type_place, type_at, carried_fields, payload_fields, ethernet_fields}
 use Rattle.packet_defs.specs.Headers.{raw_fields, fields_of, headed_fields, fields_known, fields_in}
 use Rattle.std.specs.Prelude.{◌||◌, ◌⊎◌}
 use Rattle.packet_defs.specs.Bytes.{number_at}
-use Rattle.packet_defs.specs.Internet.{behind_ipv4, has_ipv4_ports, version_at}
+use Rattle.byteorder.specs.Endian.{big_number}
+use Rattle.packet_defs.specs.Internet.{behind_ipv4, has_ipv4_ports, has_ipv6_ports, port_at, traffic_class, version_at}
+use Rattle.std.proofs.lemmas.List.{get_or-drop}
 use Rattle.std.proofs.lemmas.Bool.{ne_eqb, le-leb, leb-true, and_parts}
 
 carried-is : (bytes : List ℕ) (t : Option ℕ) (place : ℕ) (carried : Fields) → t ≡ type_at place bytes → place ≡ type_place bytes → carried ≡ carried_fields t (place + 2) bytes
@@ -48,16 +50,40 @@ headed-other link bytes null loop cooked cooked_2 = rw (ne_eqb link 0 null, ne_e
 pub known-other : (link : ℕ) (bytes : List ℕ) → (link ≡ 12 → ⊥) → (link ≡ 14 → ⊥) → (link ≡ 228 → ⊥) → (link ≡ 229 → ⊥) → fields_known link bytes ≡ headed_fields link bytes
 known-other link bytes raw_12 raw_14 four six = rw (ne_eqb link 12 raw_12, ne_eqb link 14 raw_14, ne_eqb link 228 four, ne_eqb link 229 six) refl
 
--- the fields of an IPv4 header that ports follow
-pub ipv4-ported : (at : ℕ) (bytes : List ℕ) (d p s t from to : ℕ) → d ≡ number_at 1 (at + 1) bytes → p ≡ number_at 1 (at + 9) bytes → s ≡ number_at 4 (at + 12) bytes → t ≡ number_at 4 (at + 16) bytes
-    → from ≡ number_at 2 (behind_ipv4 at bytes) bytes → to ≡ number_at 2 (behind_ipv4 at bytes + 2) bytes → has_ipv4_ports at bytes ≡ true
-    → record { vlan = None; version = Some 4; dscp = Some (d / 4); proto = Some p; source = Some s; target = Some t; sport = Some from; dport = Some to } ≡ ipv4_fields at bytes
-ipv4-ported at bytes d p s t from to dscp proto source target sport dport is = rw (dscp, proto, source, target, sport, dport, is) refl
+-- a byte, and a number in the bytes from a position on
+pub byte-at : (at : ℕ) (bytes : List ℕ) → get_or bytes at 0 ≡ number_at 1 at bytes
+byte-at at bytes =
+    let same : get_or (drop at bytes) 0 0 ≡ get_or bytes at 0 = get_or-drop at bytes 0 0 ∙ ap (λ i. get_or bytes i 0) (omega arith) in
+    omega (arith, same)
 
--- a protocol with ports
-pub ported : (proto : ℕ) → ((proto ≡ 6) ⊎ (proto ≡ 17)) → ((eqb proto 6) || (eqb proto 17)) ≡ true
-ported proto (inl e) = rw (e) refl
-ported proto (inr e) = rw (e) refl
+pub number-from : (n at : ℕ) (bytes : List ℕ) → big_number n (take (length bytes - at) (drop at bytes)) ≡ number_at n at bytes
+number-from n at bytes = ap (big_number n) (take_rest bytes at)
+
+-- ports that are there, and none
+pub port-there : (there : Bool) (at n : ℕ) (bytes : List ℕ) → there ≡ true → n ≡ number_at 2 at bytes → Some n ≡ port_at there at bytes
+port-there there at n bytes is same = rw (is, same) refl
+
+pub port-none : (there : Bool) (at : ℕ) (bytes : List ℕ) → there ≡ false → None ≡ port_at there at bytes
+port-none there at bytes is = rw (is) refl
+
+-- the fields of an IP header, from its numbers
+pub ipv4-is : (at : ℕ) (bytes : List ℕ) (s t : ℕ) (from to : Option ℕ) → s ≡ number_at 4 (at + 12) bytes → t ≡ number_at 4 (at + 16) bytes
+    → from ≡ port_at (has_ipv4_ports at bytes) (behind_ipv4 at bytes) bytes → to ≡ port_at (has_ipv4_ports at bytes) (behind_ipv4 at bytes + 2) bytes
+    → record { vlan = None; version = Some 4; dscp = Some (get_or bytes (at + 1) 0 / 4); proto = Some (get_or bytes (at + 9) 0); source = Some s; target = Some t; sport = from; dport = to } ≡ ipv4_fields at bytes
+ipv4-is at bytes s t from to source target sport dport = rw (byte-at (at + 1) bytes, byte-at (at + 9) bytes, source, target, sport, dport) refl
+
+pub ipv6-is : (at : ℕ) (bytes : List ℕ) (c s t : ℕ) (from to : Option ℕ) → c ≡ traffic_class at bytes → s ≡ number_at 16 (at + 8) bytes → t ≡ number_at 16 (at + 24) bytes
+    → from ≡ port_at (has_ipv6_ports at bytes) (at + 40) bytes → to ≡ port_at (has_ipv6_ports at bytes) (at + 42) bytes
+    → record { vlan = None; version = Some 6; dscp = Some (c / 4); proto = Some (get_or bytes (at + 6) 0); source = Some s; target = Some t; sport = from; dport = to } ≡ ipv6_fields at bytes
+ipv6-is at bytes c s t from to class source target sport dport = rw (class, byte-at (at + 6) bytes, source, target, sport, dport) refl
+
+-- a protocol with ports, and one without
+pub ported : (proto n : ℕ) → proto ≡ n → ((proto ≡ 6) ⊎ (proto ≡ 17)) → ((eqb n 6) || (eqb n 17)) ≡ true
+ported proto n same (inl e) = rw (sym same, e) refl
+ported proto n same (inr e) = rw (sym same, e) refl
+
+pub unported : (proto n : ℕ) → proto ≡ n → (proto ≡ 6 → ⊥) → (proto ≡ 17 → ⊥) → ((eqb n 6) || (eqb n 17)) ≡ false
+unported proto n same tcp udp = rw (sym same, ne_eqb proto 6 tcp, ne_eqb proto 17 udp) refl
 
 pub has-ports : (first ported captured : Bool) → first ≡ true → ported ≡ true → captured ≡ true → (first && (ported && captured)) ≡ true
 has-ports first ported captured f p c = rw (f, p, c) refl

@@ -1,6 +1,7 @@
 -- Bounds on the numbers of a packet agree with the conditions that they were prepared from.
 use Rattle.packet_core.proofs.Prelude.{◌∙◌, sym, ap, arith, length, map, List, ℕ, ◌≡◌, refl, false, position, take, true, ◌+◌, ◌<◌, Bool, None, Option, Some, [], ◌++◌, ◌∷◌, ◌≤◌, drop, eqb, get_or, inl, inr, leb, lit<, min, ◌%◌, ◌&&◌, ◌*◌, ◌-◌, ◌/◌, ◌^◌, map-append, map_more, list_all-map, list_all, meets, agree, Field, dport, dscp, in_range, is_present_and, len, proto, sport, vlan, Fields, position-map, numbers_of, absent, address, number, place}
-use Rattle.std.specs.Option.{option_eq}
+use Rattle.std.specs.Option.{option_eq, MatchOption}
+use Rattle.std.specs.Prelude.{if◌then◌else◌, unwrap_or}
 use Rattle.std.proofs.lemmas.Bool.{cases_order, cases_lt, eq-eqb, ne_eqb, le-leb, lt-leb, and_left, and_right}
 use Rattle.std.proofs.lemmas.Bool.Decides.{nat_tests}
 use Rattle.std.proofs.lemmas.Nat.{div-add-mod', mul-add-lt, shl_whole, one_shl, pow_pos, shr_le, shr_split}
@@ -94,6 +95,19 @@ pub address-holds : (four : Bool) (o : Option ℕ) (low high : ℕ) (test : ℕ 
 address-holds false o low high test few same = and_right _ _ (lt-leb absent high few)
 address-holds true None low high test few same = and_right _ _ (lt-leb absent high few)
 address-holds true (Some x) low high test few same = capped x low high few ∙ same x
+
+-- numbers and addresses as they are made of fields
+pub number-is : (o : Option ℕ) (r : ℕ) → MatchOption o (r ≡ absent) (λ x. r ≡ x) → r ≡ number o
+number-is None r h = h
+number-is (Some x) r h = h
+
+pub address-is : (four : Bool) (o given : Option ℕ) (r u most : ℕ) → r ≡ min u most → u ≡ unwrap_or given most → most ≡ absent → given ≡ (if four then o else None) → r ≡ address four o
+address-is four o given r u most least or all from = least ∙ ap (λ n. min n most) (or ∙ ap (λ g. unwrap_or g most) from) ∙ ap (λ m. min (unwrap_or (if four then o else None) m) m) all ∙ capped-address four o
+  where
+    capped-address : (four : Bool) (o : Option ℕ) → min (unwrap_or (if four then o else None) absent) absent ≡ address four o
+    capped-address false o = omega arith
+    capped-address true None = omega arith
+    capped-address true (Some x) = refl
 
 -- an address is never above `absent`
 pub address-kept : (four : Bool) (o : Option ℕ) → leb (address four o) absent ≡ true

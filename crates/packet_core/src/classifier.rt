@@ -1,19 +1,60 @@
 //! The classes of a policy, prepared for classifying many packets.
 ghost use Rattle.std.specs.Prelude.{◌≡◌, ◌≤◌, length, true, false};
 ghost use Rattle.packet_core.specs.Tests.{classes_of};
+ghost use Rattle.packet_core.specs.Numbers.{holds, is_met, numbers_of};
 ghost use Rattle.packet_core.specs.Rules.{one_asks};
 ghost use Rattle.packet_core.specs.Classes.{AreSame, AreTested, GivesEach};
 
 use crate::asks::one_asks;
-use crate::bounds::Prepared;
+use crate::bounds::{Bounds, Prepared};
 use crate::extra::{no_extra, read_extra};
-use crate::internet::{flow, ipv4_fields, is_ipv4, read_u16};
+use crate::internet::{flow, ipv4_fields, is_ipv4};
 use crate::links::{ETHERNET, Frame, IPV4, RAW, read_fields_in, read_frame, read_payload};
-use crate::prepared::{bound_classes, first_met, numbers_of};
+use crate::prepared::bound_classes;
 use crate::rules::{Alternatives, place_passed, tested_classes};
+use byteorder::{BigEndian, ByteOrder};
 use packet_defs::{Fields, Header, Packet};
 use policy_core::Policy;
 use std::alloc::{AllocError, Global};
+
+/// How many numbers of a packet are bounded, each at its own index.
+const COUNT: usize = 9;
+
+/// The value of an absent number, above every value that a condition allows.
+const ABSENT: u64 = u64::MAX;
+
+/// Returns the numbers of a packet of this original length.
+#[inline(always)]
+fn numbers_of(fields: &Fields, len: u32) -> [u64; COUNT]
+    ensures { result ≡ numbers_of fields.now len }
+{
+    let (source, target) = if fields.version == Some(4) {
+        (fields.source, fields.target)
+    } else {
+        (None, None)
+    };
+    let most = u128::from(ABSENT);
+    [
+        fields.vlan.map_or(ABSENT, u64::from),
+        fields.dscp.map_or(ABSENT, u64::from),
+        fields.proto.map_or(ABSENT, u64::from),
+        fields.sport.map_or(ABSENT, u64::from),
+        fields.dport.map_or(ABSENT, u64::from),
+        u64::from(len),
+        fields.version.map_or(ABSENT, u64::from),
+        source.unwrap_or(most).min(most) as u64,
+        target.unwrap_or(most).min(most) as u64,
+    ]
+}
+
+/// Returns whether the number at the index of the bounds is within them.
+#[inline(always)]
+fn holds(bounds: &Bounds, numbers: &[u64; COUNT]) -> bool
+    ensures { result ≡ holds numbers.now bounds.now }
+{
+    let number = numbers[bounds.place];
+    bounds.low <= number && number <= bounds.high
+}
 
 /// The classes of a policy, prepared for classifying many packets.
 #[derive(Drop)]
@@ -37,9 +78,9 @@ impl<'a> Classifier<'a> {
     ghost use Rattle.std.specs.Prelude.{◌≡◌, ◌<◌, Some, IfOk, length, true, false};
     ghost use Rattle.packet_defs.specs.declared.extra.ExtraFields.{ExtraFields};
     ghost use Rattle.packet_defs.specs.Test.{class_among};
-    ghost use Rattle.packet_defs.specs.Ethernet.{ethernet_fields};
     ghost use Rattle.packet_defs.specs.Extra.{header_in};
     ghost use Rattle.packet_core.specs.Tests.{classes_of};
+    ghost use Rattle.packet_core.specs.Numbers.{is_met};
     ghost use Rattle.packet_core.specs.Classes.{IsSorted, IsSortedByFields};
     ghost use Rattle.packet_core.specs.Classifier.{policy_of, HasClassOf};
 
@@ -76,7 +117,16 @@ impl<'a> Classifier<'a> {
             (record { fields = fields.now; extra = extra }) len ≡ Some result }
         ensures there { result < length (policy_of self.now).policy.classes }
     {
-        match first_met(&self.classes, &numbers_of(fields, len)) {
+        let numbers = &numbers_of(fields, len);
+        let met = self.classes.iter().position(
+            |class: &Prepared| -> bool
+                ensures { result ≡ is_met numbers.entry.now class.now }
+            {
+                holds(&class.first, numbers)
+                    && class.others.iter().all(|bounds| holds(bounds, numbers))
+            },
+        );
+        match met {
             Some(place) => place as u32,
             None => unreachable!(),
         }
@@ -151,23 +201,6 @@ impl<'a> Classifier<'a> {
         packet.flow = flow(fields);
     }
 
-    /// Sets the class and the flow of a packet captured as an Ethernet frame.
-    #[inline(always)]
-    fn put_ethernet(&self, bytes: &[u8], packet: &mut Packet)
-        requires { self.now.bounded ≡ true }
-        ensures { IsSortedByFields (policy_of self.now) (ethernet_fields bytes.now) packet.old
-            packet.new }
-    {
-        let Frame { vlan, place } = read_frame(bytes);
-        let at = place + 2;
-        if is_ipv4(bytes, at) && read_u16(bytes, place) == IPV4 {
-            let fields = ipv4_fields(bytes, at);
-            return self.put(&Fields { vlan, ..fields }, packet);
-        }
-        let fields = read_payload(bytes, place);
-        self.put(&Fields { vlan, ..fields }, packet);
-    }
-
     /// Sets the class and the flow of a packet with a less common header. It is a call of its own to
     /// keep `classify` short.
     #[inline(never)]
@@ -190,7 +223,16 @@ impl<'a> Classifier<'a> {
             return self.put_passed(link, bytes, packet);
         }
         match link {
-            ETHERNET => self.put_ethernet(bytes, packet),
+            ETHERNET => {
+                let Frame { vlan, place } = read_frame(bytes);
+                let at = place + 2;
+                if is_ipv4(bytes, at) && BigEndian::read_u16(&bytes[place..]) == IPV4 {
+                    let fields = ipv4_fields(bytes, at);
+                    return self.put(&Fields { vlan, ..fields }, packet);
+                }
+                let fields = read_payload(bytes, place);
+                self.put(&Fields { vlan, ..fields }, packet);
+            }
             RAW if is_ipv4(bytes, 0) => self.put(&ipv4_fields(bytes, 0), packet),
             _ => self.put_other(link, bytes, packet),
         }

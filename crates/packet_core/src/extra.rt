@@ -1,15 +1,15 @@
 //! The header fields that only policies of version 3 test.
-ghost use Rattle.std.specs.Prelude.{◌≡◌, ◌≤◌, ◌<◌, ◌+◌, ◌^◌, length};
+ghost use Rattle.std.specs.Prelude.{◌≡◌, ◌≤◌, ◌<◌, ◌+◌, ◌*◌, ◌^◌, length};
+ghost use Rattle.packet_defs.specs.Internet.{behind_ipv4, is_first_fragment};
 ghost use Rattle.packet_defs.specs.Extra.{no_extra, priority_with, flags_of, ipv4_flags, ipv6_flags, carried_flags, carried_extra, payload_extra, ethernet_extra, cooked_extra, ipv4_extra, ipv6_extra, raw_extra, family_extra, null_extra, loop_extra, headed_extra, extra_of};
 
-use crate::internet::{
-    IPV6_LEN, TCP, behind_ipv4, is_first_fragment, is_ipv4, is_ipv6, read_u8, read_u16, read_u32,
-};
+use crate::internet::{IPV6_LEN, TCP, is_ipv4, is_ipv6};
 use crate::links::{
     COOKED, COOKED_2, COOKED_2_LEN, COOKED_2_TYPE, COOKED_LEN, COOKED_TYPE, ETHERNET, FAMILY_IPV4,
     FAMILY_LEN, IPV4, IPV6, IPV6_DARWIN, IPV6_FREEBSD, IPV6_OPENBSD, LOOP, NULL, RAW, RAW_12,
     RAW_14, RAW_IPV4, RAW_IPV6, TYPE_PLACE, host_family, read_frame, tag, type_at, type_place_from,
 };
+use byteorder::{BigEndian, ByteOrder};
 use packet_defs::ExtraFields;
 
 /// The length in bytes of a TCP header up to its flags.
@@ -36,7 +36,7 @@ fn priority_with(bytes: &[u8], at: usize, id: usize) -> Option<u8>
     if id + 4 > bytes.len() || tag(bytes, at, id).is_none() {
         return None;
     }
-    Some((read_u16(bytes, id) >> 13) as u8)
+    Some((BigEndian::read_u16(&bytes[id..]) >> 13) as u8)
 }
 
 /// Returns the flags of a header of this protocol, if it is TCP's.
@@ -45,10 +45,27 @@ fn flags_of(proto: u8, bytes: &[u8], at: usize) -> Option<u8>
     ensures { result ≡ flags_of proto at bytes.now }
 {
     if proto == TCP && at + UP_TO_FLAGS <= bytes.len() {
-        Some(read_u8(bytes, at + 13))
+        Some(bytes[at + 13])
     } else {
         None
     }
+}
+
+/// Returns the position after an IPv4 header.
+fn behind_ipv4(bytes: &[u8], at: usize) -> usize
+    requires { at + 1 ≤ length bytes.now }
+    ensures value { result ≡ behind_ipv4 at bytes.now }
+    ensures bound { result ≤ at + 60 }
+{
+    at + 4 * usize::from(bytes[at] & 0xF)
+}
+
+/// Returns whether an IPv4 header is that of a first fragment, or of a whole packet.
+fn is_first_fragment(bytes: &[u8], at: usize) -> bool
+    requires { at + 20 ≤ length bytes.now }
+    ensures { result ≡ is_first_fragment at bytes.now }
+{
+    BigEndian::read_u16(&bytes[at + 6..]) & 0x1FFF == 0
 }
 
 /// Returns the flags after an IPv4 header, if one begins at this position.
@@ -57,7 +74,7 @@ fn ipv4_flags(bytes: &[u8], at: usize) -> Option<u8>
     ensures { result ≡ ipv4_flags at bytes.now }
 {
     if is_ipv4(bytes, at) && is_first_fragment(bytes, at) {
-        flags_of(read_u8(bytes, at + 9), bytes, behind_ipv4(bytes, at))
+        flags_of(bytes[at + 9], bytes, behind_ipv4(bytes, at))
     } else {
         None
     }
@@ -69,7 +86,7 @@ fn ipv6_flags(bytes: &[u8], at: usize) -> Option<u8>
     ensures { result ≡ ipv6_flags at bytes.now }
 {
     if is_ipv6(bytes, at) {
-        flags_of(read_u8(bytes, at + 6), bytes, at + IPV6_LEN)
+        flags_of(bytes[at + 6], bytes, at + IPV6_LEN)
     } else {
         None
     }
@@ -200,7 +217,7 @@ fn loop_extra(bytes: &[u8]) -> ExtraFields
     if bytes.len() < FAMILY_LEN {
         return no_extra();
     }
-    family_extra(read_u32(bytes, 0), bytes)
+    family_extra(BigEndian::read_u32(bytes), bytes)
 }
 
 /// Reads the extra fields of captured bytes with a frame, a loopback or a cooked header.

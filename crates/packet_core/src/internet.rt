@@ -1,11 +1,10 @@
-//! Numbers in captured bytes, IP headers with the ports after them, and the flow of a packet.
-//! Numbers are in network byte order (big-endian) unless a name says otherwise.
+//! IP headers with the ports after them, and the flow of a packet. Numbers are in network byte order
+//! (big-endian).
 ghost use Rattle.std.specs.Prelude.{◌≡◌, ◌≤◌, ◌<◌, ◌+◌, ◌*◌, ◌^◌, length};
-ghost use Rattle.packet_defs.specs.Bytes.{number_at, little_number_at};
 ghost use Rattle.packet_defs.specs.Flow.{flow_of};
-ghost use Rattle.packet_defs.specs.Internet.{no_fields, is_ipv4, behind_ipv4, is_first_fragment, ipv4_fields, ipv4_at, is_ipv6, ipv6_fields, ipv6_at};
+ghost use Rattle.packet_defs.specs.Internet.{no_fields, is_ipv4, ipv4_fields, ipv4_at, is_ipv6, ipv6_fields, ipv6_at};
 
-use byteorder::{BigEndian, ByteOrder, LittleEndian};
+use byteorder::{BigEndian, ByteOrder};
 use packet_defs::Fields;
 use rank_defs::FlowKey;
 
@@ -19,51 +18,13 @@ pub const TCP: u8 = 6;
 
 const UDP: u8 = 17;
 
-#[inline(always)]
-pub fn read_u8(bytes: &[u8], at: usize) -> u8
-    requires { at + 1 ≤ length bytes.now }
-    ensures { result ≡ number_at 1 at bytes.now }
-{
-    bytes[at]
-}
-
-#[inline(always)]
-pub fn read_u16(bytes: &[u8], at: usize) -> u16
-    requires { at + 2 ≤ length bytes.now }
-    ensures { result ≡ number_at 2 at bytes.now }
-{
-    BigEndian::read_u16(&bytes[at..])
-}
-
-#[inline(always)]
-pub fn read_u32(bytes: &[u8], at: usize) -> u32
-    requires { at + 4 ≤ length bytes.now }
-    ensures { result ≡ number_at 4 at bytes.now }
-{
-    BigEndian::read_u32(&bytes[at..])
-}
-
-pub fn read_u32_little(bytes: &[u8], at: usize) -> u32
-    requires { at + 4 ≤ length bytes.now }
-    ensures { result ≡ little_number_at 4 at bytes.now }
-{
-    LittleEndian::read_u32(&bytes[at..])
-}
-
-pub fn read_u128(bytes: &[u8], at: usize) -> u128
-    requires { at + 16 ≤ length bytes.now }
-    ensures { result ≡ number_at 16 at bytes.now }
-{
-    BigEndian::read_u128(&bytes[at..])
-}
-
 /// Returns whether an IPv4 header begins at this position.
 #[inline(always)]
 pub fn is_ipv4(bytes: &[u8], at: usize) -> bool
     requires { at < 2 ^ 32 }
     ensures { result ≡ is_ipv4 at bytes.now }
 {
-    at + IPV4_LEN <= bytes.len() && matches!(read_u8(bytes, at), 0x45..=0x4F)
+    at + IPV4_LEN <= bytes.len() && matches!(bytes[at], 0x45..=0x4F)
 }
 
 /// Returns whether an IPv6 header begins at this position.
@@ -71,25 +32,7 @@ pub fn is_ipv6(bytes: &[u8], at: usize) -> bool
     requires { at < 2 ^ 32 }
     ensures { result ≡ is_ipv6 at bytes.now }
 {
-    at + IPV6_LEN <= bytes.len() && read_u8(bytes, at) >> 4 == 6
-}
-
-/// Returns the position after an IPv4 header.
-pub fn behind_ipv4(bytes: &[u8], at: usize) -> usize
-    requires { at + 1 ≤ length bytes.now }
-    ensures value { result ≡ behind_ipv4 at bytes.now }
-    ensures bound { result ≤ at + 60 }
-{
-    at + 4 * usize::from(read_u8(bytes, at) & 0xF)
-}
-
-/// Returns whether an IPv4 header is that of a first fragment, or of a whole packet.
-#[inline(always)]
-pub fn is_first_fragment(bytes: &[u8], at: usize) -> bool
-    requires { at + 20 ≤ length bytes.now }
-    ensures { result ≡ is_first_fragment at bytes.now }
-{
-    read_u16(bytes, at + 6) & 0x1FFF == 0
+    at + IPV6_LEN <= bytes.len() && bytes[at] >> 4 == 6
 }
 
 /// Reads the fields of the IPv4 header that begins at this position, and the ports after it.
@@ -98,19 +41,19 @@ pub fn ipv4_fields(bytes: &[u8], at: usize) -> Fields
     requires { at + 20 ≤ length bytes.now }
     ensures { result ≡ ipv4_fields at bytes.now }
 {
-    let behind = at + 4 * usize::from(read_u8(bytes, at) & 0xF);
-    let proto = read_u8(bytes, at + 9);
+    let behind = at + 4 * usize::from(bytes[at] & 0xF);
+    let proto = bytes[at + 9];
     let fields = Fields {
         vlan: None,
         version: Some(4),
-        dscp: Some(read_u8(bytes, at + 1) >> 2),
+        dscp: Some(bytes[at + 1] >> 2),
         proto: Some(proto),
-        source: Some(u128::from(read_u32(bytes, at + 12))),
-        target: Some(u128::from(read_u32(bytes, at + 16))),
+        source: Some(u128::from(BigEndian::read_u32(&bytes[at + 12..]))),
+        target: Some(u128::from(BigEndian::read_u32(&bytes[at + 16..]))),
         sport: None,
         dport: None,
     };
-    if read_u16(bytes, at + 6) & 0x1FFF != 0 {
+    if BigEndian::read_u16(&bytes[at + 6..]) & 0x1FFF != 0 {
         return fields;
     }
     if behind + 4 > bytes.len() {
@@ -118,8 +61,8 @@ pub fn ipv4_fields(bytes: &[u8], at: usize) -> Fields
     }
     match proto {
         TCP | UDP => Fields {
-            sport: Some(read_u16(bytes, behind)),
-            dport: Some(read_u16(bytes, behind + 2)),
+            sport: Some(BigEndian::read_u16(&bytes[behind..])),
+            dport: Some(BigEndian::read_u16(&bytes[behind + 2..])),
             ..fields
         },
         _ => fields,
@@ -142,15 +85,15 @@ fn ipv6_fields(bytes: &[u8], at: usize) -> Fields
     requires { at + 40 ≤ length bytes.now }
     ensures { result ≡ ipv6_fields at bytes.now }
 {
-    let proto = read_u8(bytes, at + 6);
-    let traffic_class = (read_u16(bytes, at) >> 4 & 0xFF) as u8;
+    let proto = bytes[at + 6];
+    let traffic_class = (BigEndian::read_u16(&bytes[at..]) >> 4 & 0xFF) as u8;
     let fields = Fields {
         vlan: None,
         version: Some(6),
         dscp: Some(traffic_class >> 2),
         proto: Some(proto),
-        source: Some(read_u128(bytes, at + 8)),
-        target: Some(read_u128(bytes, at + 24)),
+        source: Some(BigEndian::read_u128(&bytes[at + 8..])),
+        target: Some(BigEndian::read_u128(&bytes[at + 24..])),
         sport: None,
         dport: None,
     };
@@ -159,8 +102,8 @@ fn ipv6_fields(bytes: &[u8], at: usize) -> Fields
     }
     match proto {
         TCP | UDP => Fields {
-            sport: Some(read_u16(bytes, at + IPV6_LEN)),
-            dport: Some(read_u16(bytes, at + IPV6_LEN + 2)),
+            sport: Some(BigEndian::read_u16(&bytes[at + IPV6_LEN..])),
+            dport: Some(BigEndian::read_u16(&bytes[at + IPV6_LEN + 2..])),
             ..fields
         },
         _ => fields,

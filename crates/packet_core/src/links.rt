@@ -6,9 +6,8 @@ ghost use Rattle.packet_defs.specs.Cooked.{cooked_at};
 ghost use Rattle.packet_defs.specs.Loopback.{family_fields, host_family, null_fields, loop_fields};
 ghost use Rattle.packet_defs.specs.Headers.{raw_fields, fields_of, headed_fields, fields_known, fields_in};
 
-use crate::internet::{
-    is_ipv4, no_fields, read_ipv4, read_ipv6, read_u16, read_u32, read_u32_little,
-};
+use crate::internet::{is_ipv4, no_fields, read_ipv4, read_ipv6};
+use byteorder::{BigEndian, ByteOrder, LittleEndian};
 use packet_defs::Fields;
 
 /// The link types of Ethernet and of raw IP (pcap-linktype).
@@ -89,8 +88,8 @@ pub fn tag(bytes: &[u8], at: usize, id: usize) -> Option<u16>
     if id + 4 > bytes.len() {
         return None;
     }
-    match read_u16(bytes, at) {
-        CUSTOMER_TAG | SERVICE_TAG => Some(read_u16(bytes, id) & 0xFFF),
+    match BigEndian::read_u16(&bytes[at..]) {
+        CUSTOMER_TAG | SERVICE_TAG => Some(BigEndian::read_u16(&bytes[id..]) & 0xFFF),
         _ => None,
     }
 }
@@ -137,7 +136,7 @@ pub fn type_at(bytes: &[u8], at: usize) -> Option<u16>
     ensures { result ≡ type_at at bytes.now }
 {
     if at + 2 <= bytes.len() {
-        Some(read_u16(bytes, at))
+        Some(BigEndian::read_u16(&bytes[at..]))
     } else {
         None
     }
@@ -206,11 +205,11 @@ pub fn host_family(bytes: &[u8]) -> u32
     requires { 4 ≤ length bytes.now }
     ensures { result ≡ host_family bytes.now }
 {
-    let family = read_u32(bytes, 0);
+    let family = BigEndian::read_u32(bytes);
     if family < 0x10000 {
         family
     } else {
-        read_u32_little(bytes, 0)
+        LittleEndian::read_u32(bytes)
     }
 }
 
@@ -231,7 +230,7 @@ fn read_loop(bytes: &[u8]) -> Fields
     if bytes.len() < FAMILY_LEN {
         return no_fields();
     }
-    read_family(read_u32(bytes, 0), bytes)
+    read_family(BigEndian::read_u32(bytes), bytes)
 }
 
 /// Reads the fields of a packet that begins with an IP header.

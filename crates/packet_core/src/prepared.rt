@@ -11,16 +11,9 @@ ghost use Rattle.packet_core.specs.Classes.{AreBounds};
 
 use crate::bounds::{Bounds, Prepared};
 use list_core::List;
-use packet_defs::Fields as PacketFields;
 use policy_core::Class;
 use policy_text_defs::{FieldName, Prefix, Probe, Range, Test, TestField};
 use std::alloc::{AllocError, Global};
-
-/// How many numbers of a packet are bounded, each at its own index.
-const COUNT: usize = 9;
-
-/// The value of an absent number, above every value that a condition allows.
-const ABSENT: u64 = u64::MAX;
 
 /// The indices that no field has.
 const VERSION: usize = 6;
@@ -202,87 +195,4 @@ pub(crate) fn bound_classes(
         classes.push(prepared)?;
     }
     Ok(Some(classes))
-}
-
-/// Returns a 16-bit number, or `ABSENT` if it isn't present.
-#[inline(always)]
-fn short(value: Option<u16>) -> u64
-    ensures { result ≡ number value }
-{
-    match value {
-        Some(value) => u64::from(value),
-        None => ABSENT,
-    }
-}
-
-/// Returns an 8-bit number, or `ABSENT` if it isn't present.
-#[inline(always)]
-fn byte(value: Option<u8>) -> u64
-    ensures { result ≡ number value }
-{
-    match value {
-        Some(value) => u64::from(value),
-        None => ABSENT,
-    }
-}
-
-/// Returns an address, or `ABSENT` if it isn't present or the version isn't 4.
-#[inline(always)]
-fn short_address(four: bool, value: Option<u128>) -> u64
-    ensures { result ≡ address four value }
-{
-    if !four {
-        return ABSENT;
-    }
-    match value {
-        Some(value) => value.min(u128::from(ABSENT)) as u64,
-        None => ABSENT,
-    }
-}
-
-/// Returns the numbers of a packet of this original length.
-#[inline(always)]
-pub(crate) fn numbers_of(fields: &PacketFields, len: u32) -> [u64; COUNT]
-    ensures { result ≡ numbers_of fields.now len }
-{
-    let four = fields.version == Some(4);
-    [
-        short(fields.vlan),
-        byte(fields.dscp),
-        byte(fields.proto),
-        short(fields.sport),
-        short(fields.dport),
-        u64::from(len),
-        byte(fields.version),
-        short_address(four, fields.source),
-        short_address(four, fields.target),
-    ]
-}
-
-/// Returns whether the number at the index of the bounds is within them.
-#[inline(always)]
-fn holds(bounds: &Bounds, numbers: &[u64; COUNT]) -> bool
-    ensures { result ≡ holds numbers.now bounds.now }
-{
-    let number = numbers[bounds.place];
-    bounds.low <= number && number <= bounds.high
-}
-
-#[inline(always)]
-fn all_hold(all: &[Bounds], numbers: &[u64; COUNT]) -> bool
-    ensures { result ≡ list_all (holds numbers.now) all.now }
-{
-    all.iter().all(|bounds| holds(bounds, numbers))
-}
-
-/// Returns the index of the first class whose bounds all hold, if there is one.
-#[inline(always)]
-pub(crate) fn first_met(classes: &[Prepared], numbers: &[u64; COUNT]) -> Option<usize>
-    ensures { result ≡ position (is_met numbers.now) classes.now }
-{
-    classes.iter().position(
-        |class: &Prepared| -> bool
-            ensures { result ≡ is_met numbers.entry.now class.now }
-        { holds(&class.first, numbers) && all_hold(&class.others, numbers) },
-    )
 }

@@ -9,14 +9,12 @@ ghost use Rattle.pcap_core.specs.Faults.{fault_in, read_error_as};
 ghost use Rattle.pcap_core.specs.Frames.{IsFrameOf, IsNextFrame, IsInLimits};
 ghost use Rattle.pcap_core.specs.Held.{held, bytes_taken};
 ghost use Rattle.pcap_core.specs.Rest.{rest_of, HasEnded, Serves};
-ghost use Rattle.pcap_core.specs.Pieces.{TakesHeader, TakesPreface, TakesRecord};
+ghost use Rattle.pcap_core.specs.Pieces.{TakesHeader, TakesNext, TakesPreface, TakesRecord};
 
 use crate::capture_reader::CaptureReader;
 use crate::fault::CaptureFault;
 use crate::frame::{Frame, LinkedFrame};
-use crate::header::{
-    HEADER_LEN, RECORD_LEN, RecordHeader, checked_record_header_in, head_in, record_header_in,
-};
+use crate::header::{HEADER_LEN, RECORD_LEN, RecordHeader, checked_record_header_in, head_in};
 use crate::window::Window;
 use outside_core::{ReadError, Shelf};
 use pcap_defs::Head;
@@ -90,12 +88,10 @@ fn read_record<S: Shelf>(
     into: &mut Vec<u8>,
 ) -> Result<Option<Frame>, CaptureFault>
     requires begun { IsTrue (S.begun shelf.old) }
-    ensures found { IfOk result (λ o. IfSome o (λ frame.
-        (r : Record) × IsFrameOf head.nano r frame (bytes_taken window.new into.new.items)
-        × TakesRecord head.big r (rest_of (held window.old) (S.left shelf.old))
-        (rest_of (held window.new) (S.left shelf.new)))) }
     ensures next { IfOk result (λ o. IfSome o (λ frame.
-        IsNextFrame count frame (bytes_taken window.new into.new.items))) }
+        TakesNext head.big head.nano count frame (bytes_taken window.new into.new.items)
+        (rest_of (held window.old) (S.left shelf.old))
+        (rest_of (held window.new) (S.left shelf.new)))) }
     ensures ended { IfOk result (λ o. IfNone o (HasEnded
         (rest_of (held window.old) (S.left shelf.old))
         (rest_of (held window.new) (S.left shelf.new)))) }
@@ -180,7 +176,7 @@ impl Reader {
     ghost use Rattle.pcap_core.specs.Held.{held};
     ghost use Rattle.pcap_core.specs.Limits.{most_held};
     ghost use Rattle.pcap_core.specs.Rest.{rest_of, Serves};
-    ghost use Rattle.pcap_core.specs.Pieces.{TakesHeader, TakesRecord};
+    ghost use Rattle.pcap_core.specs.Pieces.{TakesHeader, TakesNext, TakesRecord};
     ghost use Rattle.pcap_core.specs.Left.{head_read};
     ghost use Rattle.pcap_core.specs.Readers.{head_of, is_big, is_nano, records_given, bytes_held, captured_of, is_live, IsFresh, IsReady, rest_left, StopsRightly, Counts};
 
@@ -258,21 +254,21 @@ impl Reader {
         }
     }
 
-    /// Reads the next record if the window may not have it as a whole, or finds its fault.
+    /// Reads the next record, or finds its fault. It is a call of its own to keep `next_in_place`
+    /// short.
+    #[cold]
     #[inline(never)]
-    fn next_rare<S: Shelf>(
+    fn read_next<S: Shelf>(
         &mut self,
         shelf: &mut S,
         into: &mut Vec<u8>,
     ) -> Result<Option<Frame>, CaptureFault>
         requires ready { IsReady self.old }
         requires begun { IsTrue (S.begun shelf.old) }
-        ensures found { IfOk result (λ o. IfSome o (λ frame.
-            (r : Record) × IsFrameOf (is_nano self.old) r frame (captured_of self.new into.new.items)
-            × TakesRecord (is_big self.old) r (rest_left self.old (S.left shelf.old))
-            (rest_left self.new (S.left shelf.new)))) }
         ensures next { IfOk result (λ o. IfSome o (λ frame.
-            IsNextFrame (records_given self.old) frame (captured_of self.new into.new.items))) }
+            TakesNext (is_big self.old) (is_nano self.old) (records_given self.old) frame
+            (captured_of self.new into.new.items) (rest_left self.old (S.left shelf.old))
+            (rest_left self.new (S.left shelf.new)))) }
         ensures stops { StopsRightly is_some (is_big self.old) (records_given self.old) result
             (rest_left self.old (S.left shelf.old)) (rest_left self.new (S.left shelf.new)) }
         ensures counts { Counts is_some result self.old self.new }
@@ -294,65 +290,6 @@ impl Reader {
                 Err(fault)
             }
         }
-    }
-
-    /// Reads the next record. `captured` returns its captured bytes, if it is given the contents of
-    /// `into` as they are after the call. They are copied to `into` only if they aren't buffered as
-    /// a whole.
-    #[inline(always)]
-    pub fn next_in_place<S: Shelf>(
-        &mut self,
-        shelf: &mut S,
-        into: &mut Vec<u8>,
-    ) -> Result<Option<Frame>, CaptureFault>
-        requires ready { IsReady self.old }
-        requires begun { IsTrue (S.begun shelf.old) }
-
-        // The remaining bytes were the spelling of a record, and then the bytes left now.
-        ensures found { IfOk result (λ o. IfSome o (λ frame.
-            (r : Record) × IsFrameOf (is_nano self.old) r frame (captured_of self.new into.new.items)
-            × TakesRecord (is_big self.old) r (rest_left self.old (S.left shelf.old))
-            (rest_left self.new (S.left shelf.new)))) }
-        ensures next { IfOk result (λ o. IfSome o (λ frame.
-            IsNextFrame (records_given self.old) frame (captured_of self.new into.new.items))) }
-
-        // There is no record exactly if nothing is left, and then nothing is left for a later call.
-        // A returned fault is that of the remaining bytes. If they have one, an error is returned.
-        ensures stops { StopsRightly is_some (is_big self.old) (records_given self.old) result
-            (rest_left self.old (S.left shelf.old)) (rest_left self.new (S.left shelf.new)) }
-        ensures counts { Counts is_some result self.old self.new }
-        ensures shelf { Serves S.lends S.content S.begun S.faults shelf.old shelf.new }
-        ensures cause { IsErrOf result CaptureFault.ReadFault →
-            Rose (S.faults shelf.old) (S.faults shelf.new) }
-    {
-        let Some(head) = self.head else {
-            unreachable!()
-        };
-        let front = self.window.front();
-        if front.len() >= RECORD_LEN {
-            let header = record_header_in(head, &front[..RECORD_LEN]);
-            let captured = header.captured as usize;
-            if self.records < u32::MAX && RECORD_LEN + captured <= front.len() {
-                self.window.take_held(RECORD_LEN, captured);
-                self.records += 1;
-                return Ok(Some(Frame {
-                    number: u64::from(self.records),
-                    moment: header.moment,
-                    captured: header.captured,
-                    len: header.len,
-                }));
-            }
-        }
-        self.next_rare(shelf, into)
-    }
-
-    /// Returns the captured bytes of the record that the last call of `next_in_place` read. `copied`
-    /// are the contents of the buffer that it was given.
-    #[inline(always)]
-    pub fn captured<'b>(&'b self, copied: &'b [u8]) -> &'b [u8]
-        ensures { result.now ≡ captured_of self.now copied.now }
-    {
-        CaptureReader::captured(self, copied)
     }
 
     /// Reads the next record, and replaces the contents of `into` by its captured bytes.
@@ -381,7 +318,7 @@ impl Reader {
         ensures cause { IsErrOf result CaptureFault.ReadFault →
             Rose (S.faults shelf.old) (S.faults shelf.new) }
     {
-        let Some(frame) = self.next_in_place(shelf, into)? else {
+        let Some(frame) = self.read_next(shelf, into)? else {
             return Ok(None);
         };
         if self.window.copy_taken(into).is_err() {
@@ -391,9 +328,11 @@ impl Reader {
         Ok(Some(frame))
     }
 
-    /// Skips the next record, and returns whether there was one. The contents of `scratch` are
-    /// lost.
-    pub fn pass<S: Shelf>(
+    /// Skips the next record, and returns whether there was one, or finds its fault. It is a call of
+    /// its own to keep `pass` short.
+    #[cold]
+    #[inline(never)]
+    fn pass_next<S: Shelf>(
         &mut self,
         shelf: &mut S,
         scratch: &mut Vec<u8>,
@@ -490,7 +429,14 @@ impl CaptureReader for Reader {
         let Some(head) = self.head else {
             unreachable!()
         };
-        match Reader::next_in_place(self, shelf, into) {
+        if let Some(frame) = self.window.take_record(head, self.records) {
+            self.records += 1;
+            return Ok(Some(LinkedFrame {
+                frame,
+                link: head.link,
+            }));
+        }
+        match self.read_next(shelf, into) {
             Ok(Some(frame)) => Ok(Some(LinkedFrame {
                 frame,
                 link: head.link,
@@ -506,7 +452,14 @@ impl CaptureReader for Reader {
     }
 
     fn pass<S: Shelf>(&mut self, shelf: &mut S, scratch: &mut Vec<u8>) -> Result<bool, ReadError> {
-        match Reader::pass(self, shelf, scratch) {
+        let Some(head) = self.head else {
+            unreachable!()
+        };
+        if self.window.take_record(head, self.records).is_some() {
+            self.records += 1;
+            return Ok(true);
+        }
+        match self.pass_next(shelf, scratch) {
             Ok(some) => Ok(some),
             Err(fault) => Err(read_error(fault)),
         }

@@ -2,7 +2,10 @@
 ghost use Rattle.std.specs.Prelude.{◌≤◌, vec_len};
 ghost use Rattle.pcap_core.specs.Limits.{most_held};
 
+use crate::frame::Frame;
+use crate::header::{RECORD_LEN, record_header_in};
 use outside_core::{Shelf, ShelfError};
+use pcap_defs::Head;
 use std::alloc::{AllocError, Global};
 
 /// The most bytes that are read at once and kept.
@@ -23,12 +26,13 @@ pub struct Window {
 }
 
 impl Window {
-    ghost use Rattle.std.specs.Prelude.{◌≡◌, ◌≢◌, ◌+◌, ◌-◌, ◌<◌, ◌≤◌, ◌==◌, [], ◌++◌, List, ℕ, Some, None, length, min, take, drop, vec_len, IfOk, IfErr, IfSome, OnOk, OnErr, IsTrue, IsErrOf};
+    ghost use Rattle.std.specs.Prelude.{◌≡◌, ◌≢◌, ◌+◌, ◌-◌, ◌<◌, ◌≤◌, ◌==◌, [], ◌++◌, List, ℕ, Option, Some, None, length, min, take, drop, vec_len, IfOk, IfErr, IfSome, IfNone, OnOk, OnErr, IsTrue, IsErrOf};
     ghost use Rattle.outside_core.specs.Faults.{Rose};
     ghost use Rattle.pcap_core.specs.Rest.{rest_of, TakesFront, IsWhole, IsShort, Serves};
     ghost use Rattle.pcap_core.specs.Held.{held, bytes_taken};
     ghost use Rattle.pcap_core.specs.Limits.{most_held};
     ghost use Rattle.pcap_core.specs.Passed.{Passes, IsAll};
+    ghost use Rattle.pcap_core.specs.Pieces.{TakesNext};
 
     /// Returns an empty window.
     pub fn new(alloc: Global) -> Window
@@ -263,21 +267,36 @@ impl Window {
         Ok(into.len())
     }
 
-    /// Skips `before` bytes of the window and takes the `count` bytes after them, which stay in it.
-    /// `taken` returns them until the next change of the window.
+    /// Takes the next record, after `count` records, if the window has all of it and a capture may
+    /// have one more. `taken` returns its captured bytes until the next change of the window.
     #[inline(always)]
-    pub(crate) fn take_held(&mut self, before: usize, count: usize)
-        requires { before + count ≤ length (held self.old) }
-        ensures taken { (copied : List ℕ) → held self.old ≡
-            take before (held self.old) ++ (bytes_taken self.new copied ++ held self.new) }
-        ensures count { (copied : List ℕ) → length (bytes_taken self.new copied) ≡ count }
+    pub(crate) fn take_record(&mut self, head: Head, count: u32) -> Option<Frame>
+        ensures some { IfSome result (λ frame. (copied : List ℕ) (left : Option (List ℕ)) →
+            TakesNext head.big head.nano count frame (bytes_taken self.new copied)
+            (rest_of (held self.old) left) (rest_of (held self.new) left)) }
+        ensures none { IfNone result (self.new ≡ self.old) }
     {
-        self.at += before + count;
-        self.in_place = Some(count);
+        let front = &self.buffer[self.at..self.end];
+        if count == u32::MAX || front.len() < RECORD_LEN {
+            return None;
+        }
+        let header = record_header_in(head, &front[..RECORD_LEN]);
+        let captured = header.captured as usize;
+        if front.len() < RECORD_LEN + captured {
+            return None;
+        }
+        self.at += RECORD_LEN + captured;
+        self.in_place = Some(captured);
+        Some(Frame {
+            number: u64::from(count) + 1,
+            moment: header.moment,
+            captured: header.captured,
+            len: header.len,
+        })
     }
 
-    /// Returns the bytes that the last call of `take_in_place` took. `copied` are the contents of
-    /// the buffer that it was given.
+    /// Returns the bytes that the last call of `take_in_place` or `take_record` took. `copied` are
+    /// the contents of the buffer that it was given.
     #[inline(always)]
     pub fn taken<'b>(&'b self, copied: &'b [u8]) -> &'b [u8]
         ensures { result.now ≡ bytes_taken self.now copied.now }

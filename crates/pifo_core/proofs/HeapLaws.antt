@@ -62,11 +62,6 @@ ranks_below_last (e ∷ f ∷ run) (suc n) d b r long ordered at le =
     let rest : AllByRecursion (λ (z : Held). z.rank ≤ r) (map wide (f ∷ run)) = ranks_below_last (f ∷ run) n d b r (omega (arith, long)) ordered.1 at le in
     (omega (arith, ordered.0.0, rest.0), rest)
 
-pub rank_below_at : (run : List Brief) (n : ℕ) (d b : Brief) (r : ℕ) → n < length run → b ≡ get_or run n d → AllByRecursion (λ (e : Held). e.rank ≤ r) (map wide run) → b.rank ≤ r
-rank_below_at [] n d b r inside at all = absurd (omega (arith, inside))
-rank_below_at (e ∷ run) zero d b r inside at all = omega (arith, ap (λ z. z.rank) at, all.0)
-rank_below_at (e ∷ run) (suc n) d b r inside at all = rank_below_at run n d b r (omega (arith, inside)) at all.1
-
 pub ranks_below_none : (run : List Brief) (r : ℕ) → length run ≡ 0 → AllByRecursion (λ (e : Held). e.rank ≤ r) (map wide run)
 ranks_below_none [] r none = tt
 ranks_below_none (e ∷ run) r none = absurd (omega (arith, none))

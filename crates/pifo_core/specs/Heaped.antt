@@ -1,13 +1,13 @@
 -- The invariant of a queue kept in a run and a binary heap.
-use Rattle.std.specs.Prelude.{◌≤◌, ℕ, List, [], ◌∷◌, ◌++◌, map, Bool, false, true, nat_eq}
-use Rattle.std.specs.List.{AllByRecursion, IsDistinct}
+use Rattle.std.specs.Prelude.{ℕ, List, [], ◌∷◌, ◌++◌, map, Bool, false, true, nat_eq}
+use Rattle.std.specs.List.{IsDistinct}
 use Rattle.std.specs.BinaryHeap.{IsHeap, IsUpperBound}
 use Rattle.std.specs.declared.cmp.Ordering.{Ordering}
 use Rattle.std.specs.Ordering.{nat_cmp, ordering_then, is_lt}
 use Rattle.std.specs.declared.cmp.Reverse.{Reverse}
 use Rattle.pifo_core.specs.declared.held.Held.{Held}
 use Rattle.pifo_core.specs.declared.held.Brief.{Brief}
-use Rattle.pifo_core.specs.Held.{wide, IsSmall, InLeavingOrder, ArrivedBefore}
+use Rattle.pifo_core.specs.Held.{wide, InLeavingOrder, ArrivedBefore}
 
 abbrev pub held_of : List (Reverse Held) → List Held
 held_of items = map (λ r. r.0) items
@@ -37,10 +37,6 @@ abbrev pub leads : List Brief → List (Reverse Held) → Bool
 leads [] items = false
 leads (first ∷ run) [] = true
 leads (first ∷ run) (top ∷ items) = is_lt (leaving_order (wide first) top.0)
-
--- an entry that fits in a `Brief`, with a rank at least that of every entry in the run
-abbrev pub MayFollow : List Brief → Held → Type 0
-MayFollow run x = IsSmall x × AllByRecursion (λ e. e.rank ≤ x.rank) (map wide run)
 
 pub record IsHeaped (run : List Brief) (items : List (Reverse Held)) (pushed : ℕ) : Type 0 where
   pub in_order : InLeavingOrder (map wide run)

@@ -1,5 +1,5 @@
 -- The abstract queue of a list of queued entries.
-use Rattle.std.specs.Prelude.{◌≡◌, ◌<◌, ◌^◌, ◌⊎◌, ℕ, List, [], ◌∷◌, map, if◌then◌else◌, nat_lt}
+use Rattle.std.specs.Prelude.{◌≡◌, ◌<◌, ◌⊎◌, ℕ, List, [], ◌∷◌, map, if◌then◌else◌, nat_lt}
 use Rattle.std.specs.List.{AllByRecursion}
 use Rattle.tree_defs.specs.Queue.{Queue}
 use Rattle.pifo_core.specs.declared.held.Held.{Held}
@@ -8,10 +8,6 @@ use Rattle.pifo_core.specs.declared.held.Brief.{Brief}
 -- a `Brief` entry at full width
 abbrev pub wide : Brief → Held
 wide b = record { rank = b.rank; arrival = b.arrival; value = b.value }
-
--- the sequence number and the value fit in 32 bits
-abbrev pub IsSmall : Held → Type 0
-IsSmall x = (x.arrival < 2 ^ 32) × (x.value < 2 ^ 32)
 
 -- inserts an entry in order of arrival
 abbrev pub placed : Held → List Held → List Held

@@ -3,7 +3,7 @@ ghost use Rattle.std.specs.Prelude.{◌≡◌, ◌+◌, ◌≤◌, ◌<◌, ◌�
 ghost use Rattle.std.specs.List.Sorted.{IsPermutation};
 ghost use Rattle.std.specs.BinaryHeap.{heap_items, heap_len, heap_capacity, IsHeap, IsUpperBound, KeepsHeap, PopsGreatest, HeapUnchanged};
 ghost use Rattle.pifo_core.specs.Held.{wide, InLeavingOrder};
-ghost use Rattle.pifo_core.specs.Heaped.{MayFollow, leads, heap_order, TopIsFirst};
+ghost use Rattle.pifo_core.specs.Heaped.{leads, heap_order, TopIsFirst};
 
 use crate::held::{Brief, Held};
 use crate::pifo::Pifo;
@@ -11,6 +11,10 @@ use std::alloc::{AllocError, Global};
 use std::cmp::Reverse;
 use std::collections::{BinaryHeap, VecDeque};
 use std::marker::Model;
+
+/// The least number of entries for which a part of a queue allocates memory, so that short queues
+/// seldom grow.
+const LEAST: usize = 16;
 
 /// A queue that keeps pairs which arrive in dequeue order in a FIFO (the run). The others are kept
 /// in a binary heap, with the first to be dequeued on top.
@@ -56,8 +60,8 @@ impl HeapPifo {
         }
     }
 
-    /// Allocates memory for `more` pushes, and for at least 16, so that short queues seldom grow. The
-    /// error means out of memory.
+    /// Allocates memory for `more` pushes. Each part grows only if it lacks the room itself: to twice
+    /// its capacity, and to `LEAST` entries or more. The error means out of memory.
     #[inline(never)]
     fn grow(&mut self, more: usize) -> Result<(), AllocError>
         requires short { self.old.spare < more }
@@ -66,9 +70,10 @@ impl HeapPifo {
         ensures entries { self.new.entries ≡ self.old.entries }
         ensures pushes { self.new.pushes ≡ self.old.pushes }
     {
-        let pushes = more.max(16);
-        self.run.reserve(pushes)?;
-        self.heap.reserve(pushes)?;
+        let run_more = more.max(LEAST.saturating_sub(self.run.len()));
+        self.run.reserve(run_more)?;
+        let heap_more = more.max(LEAST.saturating_sub(self.heap.len()));
+        self.heap.reserve(heap_more)?;
         let in_run = self.run.capacity() - self.run.len();
         let in_heap = self.heap.capacity() - self.heap.len();
         self.spare = in_run.min(in_heap);
@@ -93,17 +98,26 @@ impl Pifo for HeapPifo {
 
     #[inline(always)]
     fn push(&mut self, rank: u64, value: u64) {
-        let held = Held {
-            rank,
-            arrival: self.pushed,
-            value,
+        let in_order = match self.run.back() {
+            Some(last) => last.rank <= rank,
+            None => true,
         };
-        match brief_behind(&self.run, &held) {
+        match (u32::try_from(self.pushed), u32::try_from(value)) {
             // Both parts have room for one more entry, so neither push can fail.
-            Some(brief) => {
+            (Ok(arrival), Ok(value)) if in_order => {
+                let brief = Brief {
+                    rank,
+                    arrival,
+                    value,
+                };
                 self.run.push_back_reserved(brief);
             }
-            None => {
+            _ => {
+                let held = Held {
+                    rank,
+                    arrival: self.pushed,
+                    value,
+                };
                 push_aside(&mut self.heap, held);
             }
         }
@@ -162,19 +176,6 @@ fn pop_aside(heap: &mut BinaryHeap<Reverse<Held>>) -> Option<Reverse<Held>>
     heap.pop()
 }
 
-/// Returns the entry as a `Brief`, if it may be appended to the run.
-#[inline(always)]
-fn brief_behind(run: &VecDeque<Brief>, held: &Held) -> Option<Brief>
-    requires { InLeavingOrder (map wide run.now.items) }
-    ensures same { IfSome result (λ b. wide b ≡ held.now) }
-    ensures follows { IsSome result ↔ MayFollow run.now.items held.now }
-{
-    match run.back() {
-        Some(last) if held.rank < last.rank => None,
-        _ => Brief::of(held),
-    }
-}
-
 /// Returns whether the next pair to be dequeued is the first of the run.
 #[inline(always)]
 fn run_leads(run: &VecDeque<Brief>, heap: &BinaryHeap<Reverse<Held>>) -> bool
@@ -182,7 +183,14 @@ fn run_leads(run: &VecDeque<Brief>, heap: &BinaryHeap<Reverse<Held>>) -> bool
     ensures top { IsHeap heap_order (heap_items heap.now) → TopIsFirst (heap_items heap.now) }
 {
     match (run.front(), heap.peek()) {
-        (Some(first), Some(Reverse(top))) => first.wide() < *top,
+        (Some(first), Some(Reverse(top))) => {
+            let first = Held {
+                rank: first.rank,
+                arrival: u64::from(first.arrival),
+                value: u64::from(first.value),
+            };
+            first < *top
+        }
         (front, _) => front.is_some(),
     }
 }

@@ -5,5 +5,7 @@ pub mod FlowPlaces
 pub mod LinesRun
 pub mod Lists
 pub mod NoLines
+pub mod NodeKept
+pub mod PlacesRun
 pub mod RankKept
 pub mod Table

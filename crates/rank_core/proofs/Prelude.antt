@@ -19,14 +19,14 @@ pub use Rattle.rank_defs.specs.Steps.{run, write, after_pop, after_push, assigne
 pub use Rattle.rank_defs.specs.declared.environment.Env.{Env}
 pub use Rattle.rank_defs.specs.declared.environment.FlowKey.{FlowKey}
 pub use Rattle.rank_defs.specs.declared.environment.Who.{Who}
-pub use Rattle.rank_defs.specs.declared.environment.Who.TheVariants.{Flow}
+pub use Rattle.rank_defs.specs.declared.environment.Who.TheVariants.{Child, Flow}
 pub use Rattle.rank_defs.specs.declared.transaction.Aim.TheVariants.{Keep}
 pub use Rattle.rank_defs.specs.declared.transaction.Assign.{Assign}
 pub use Rattle.rank_defs.specs.declared.transaction.Transaction.{Transaction}
 pub use Rattle.rank_core.specs.FlowKeys.{has_key, key_of}
-pub use Rattle.rank_core.specs.Flows.{numbers_at, items_of, place_of}
+pub use Rattle.rank_core.specs.Flows.{numbers_at, items_of, place_of, numbers_of}
 pub use Rattle.rank_core.specs.Forms.{IsForm, AreFair, AreKept, RunAs}
-pub use Rattle.rank_core.specs.Node.{state_of, step_of, HasState, kept_or, kept}
+pub use Rattle.rank_core.specs.Node.{state_of, step_of, HasState, HasRoom, children_of, kept_or, kept}
 pub use Rattle.rank_core.specs.Scope.{memory, run_of, memory_of}
 pub use Rattle.rank_core.specs.Table.{program_named, row, assignment, program}
 pub use Rattle.rank_core.specs.contracts.flows.OrderedKeyOrd.TheImpl.{cmp-value}

@@ -6,7 +6,7 @@ use Rattle.rank_defs.specs.declared.environment.Who.TheVariants.{Child, Flow}
 use Rattle.rank_defs.specs.declared.transaction.Assign.{Assign}
 use Rattle.rank_defs.specs.declared.transaction.Transaction.{Transaction}
 use Rattle.rank_defs.specs.States.{State, SameState, Memory, memory_for}
-use Rattle.rank_core.specs.Scope.{memory, run_of}
+use Rattle.rank_core.specs.Scope.{run_of}
 use Rattle.rank_core.specs.Flows.{items_of, numbers_of}
 use Rattle.rank_core.specs.declared.node.Eaches.{Eaches}
 use Rattle.rank_core.specs.declared.node.Eaches.TheVariants.{Children, Flows, Bare}
@@ -51,10 +51,6 @@ state_of n = record { keeps = n.keeps.items; eaches = λ who. kept_or n.firsts.i
 -- the variables of a node agree with the state
 abbrev pub HasState : NodeState → State → Type 0
 HasState n s = SameState (state_of n) s
-
--- the memory of a step for a child or a flow, without first values
-abbrev pub memory_at : ℕ → List ℕ → Eaches → Who → Memory
-memory_at r keeps eaches who = memory r keeps (kept_or [] (kept eaches who))
 
 -- the memory at the end of a step with these assignments
 abbrev pub step_of : Transaction → List Assign → Who → Env → ℕ → NodeState → Memory

@@ -1,16 +1,12 @@
 //! The `each` variables of the flows at a leaf.
 
-ghost use Rattle.std.specs.Prelude.{◌≡◌, ◌≢◌, ◌<◌, ℕ, [], length, slice_get, IsSome, Some, None, OnErr, OnOk};
+ghost use Rattle.std.specs.Prelude.{◌≡◌, ◌≢◌, ◌<◌, ℕ, [], length, slice_get, Some, None, OnErr, OnOk};
 ghost use Rattle.std.proofs.Props.{props};
 ghost use Rattle.std.specs.Map.{lookup};
 ghost use Rattle.rank_defs.specs.declared.environment.FlowKey.{FlowKey as Known};
 ghost use Rattle.rank_core.specs.FlowKeys.{key_of, has_key};
-ghost use Rattle.rank_core.specs.Runs.{CanRun};
-ghost use Rattle.rank_core.specs.Scope.{memory, run_of};
 
-use crate::form::Form;
-use crate::node::run_for_place;
-use rank_defs::{Assign, Env, FlowKey, Transaction};
+use rank_defs::FlowKey;
 use std::alloc::{AllocError, Global};
 use std::collections::BTreeMap;
 
@@ -51,7 +47,7 @@ const FEWEST: usize = 64;
 pub(crate) struct FlowTable {
     places: BTreeMap<OrderedKey, usize>,
     flows: Vec<FlowKey>,
-    numbers: Vec<Vec<u64>>,
+    pub(crate) numbers: Vec<Vec<u64>>,
     guesses: Vec<u32>,
     alloc: Global,
     ghost even: { length numbers.items ≡ length flows.items },
@@ -61,7 +57,6 @@ pub(crate) struct FlowTable {
 
 impl FlowTable {
     ghost use Rattle.rank_core.specs.Flows.{place_of, numbers_of};
-    ghost use Rattle.rank_core.specs.Node.{kept_or};
 
     /// Returns a table in which no flow has room.
     pub(crate) fn new(alloc: Global) -> FlowTable
@@ -76,25 +71,20 @@ impl FlowTable {
         }
     }
 
-    /// Returns the position of the guess for a flow, a hash of its ports and addresses. An address
-    /// that doesn't fit in 64 bits counts as 0.
+    /// Returns the index of a flow, if it has room. A flow's guess stands at a hash of its ports
+    /// and addresses. An address that doesn't fit in 64 bits counts as 0.
     #[inline(always)]
-    fn guess_at(&self, flow: &FlowKey) -> usize {
+    pub(crate) fn place(&mut self, flow: &FlowKey) -> Option<usize>
+        ensures place { result ≡ place_of self.new flow.now }
+        ensures same { (f : FlowKey) → numbers_of self.new f ≡ numbers_of self.old f }
+    {
         let ports = (u64::from(flow.sport) << 16) | u64::from(flow.dport);
         let source = u64::try_from(flow.source).unwrap_or(0);
         let target = u64::try_from(flow.target).unwrap_or(0);
         let addresses = source.rotate_left(32) ^ target;
         let hash = ((ports ^ addresses).wrapping_mul(0x9E37_79B9_7F4A_7C15) >> 32) as usize;
-        hash & self.guesses.len().wrapping_sub(1)
-    }
-
-    /// Returns the index of a flow, if it has room.
-    #[inline(always)]
-    fn place(&mut self, flow: &FlowKey) -> Option<usize>
-        ensures place { result ≡ place_of self.new flow.now }
-        ensures same { (f : FlowKey) → numbers_of self.new f ≡ numbers_of self.old f }
-    {
-        let guess = match self.guesses.get(self.guess_at(flow)) {
+        let at = hash & self.guesses.len().wrapping_sub(1);
+        let guess = match self.guesses.get(at) {
             Some(guess) => *guess as usize,
             None => 0,
         };
@@ -103,20 +93,19 @@ impl FlowTable {
                 return Some(guess);
             }
         }
-        self.search(*flow)
+        self.search(*flow, at)
     }
 
-    /// Looks up the index of a flow in the map, and stores it as the guess. It takes a copy, so that
-    /// a packet with a right guess needs none.
+    /// Looks up the index of a flow in the map, and stores it as the guess at a position. It takes
+    /// a copy, so that a packet with a right guess needs none.
     #[inline(never)]
-    fn search(&mut self, flow: FlowKey) -> Option<usize>
+    fn search(&mut self, flow: FlowKey, at: usize) -> Option<usize>
         ensures place { result ≡ place_of self.new flow }
         ensures same { (f : FlowKey) → numbers_of self.new f ≡ numbers_of self.old f }
     {
         match self.places.get(&key_of(&flow)) {
             Some(found) => {
                 let place = *found;
-                let at = self.guess_at(&flow);
                 if let Some(guess) = self.guesses.get_mut(at) {
                     *guess = u32::try_from(place).unwrap_or(0);
                 }
@@ -140,8 +129,9 @@ impl FlowTable {
     }
 
     /// Makes room for a flow that has none. Its variables get their first values.
+    #[cold]
     #[inline(never)]
-    fn add(&mut self, flow: &FlowKey, first: &[u64]) -> Result<(), AllocError>
+    pub(crate) fn add(&mut self, flow: &FlowKey, first: &[u64]) -> Result<(), AllocError>
         requires absent { place_of self.old flow.now ≡ None }
         ensures added { OnOk result (numbers_of self.new flow.now ≡ Some first.now) }
         ensures others { (f : FlowKey) → f ≢ flow.now → numbers_of self.new f ≡
@@ -156,59 +146,5 @@ impl FlowTable {
         self.flows.push_reserved(*flow);
         self.numbers.push_reserved(numbers);
         Ok(())
-    }
-
-    /// Makes room for a flow. New variables get their first values.
-    #[inline(always)]
-    pub(crate) fn reserve(&mut self, flow: &FlowKey, first: &[u64]) -> Result<(), AllocError>
-        ensures room { OnOk result (IsSome (numbers_of self.new flow.now)) }
-        ensures same { (f : FlowKey) →
-            kept_or first.now (numbers_of self.new f) ≡ kept_or first.now (numbers_of self.old f) }
-        ensures stays { IsSome (numbers_of self.old flow.now) →
-            IsSome (numbers_of self.new flow.now) }
-        ensures others { (f : FlowKey) → f ≢ flow.now → numbers_of self.new f ≡
-            numbers_of self.old f }
-        ensures err { OnErr result ((f : FlowKey) → numbers_of self.new f ≡ numbers_of self.old f) }
-    {
-        match self.place(flow) {
-            Some(_) => Ok(()),
-            None => self.add(flow, first),
-        }
-    }
-
-    /// Runs assignments on the variables of the leaf and on those of a flow, which has room.
-    #[inline(always)]
-    pub(crate) fn run_for(
-        &mut self,
-        flow: &FlowKey,
-        form: &Form,
-        transaction: &Transaction,
-        assigns: &[Assign],
-        env: &Env,
-        rank: u64,
-        keeps: &mut [u64],
-    ) -> u64
-        requires can { CanRun transaction.now assigns.now form.now env.now
-            (memory rank keeps.old (kept_or [] (numbers_of self.old flow.now))) }
-        requires room { IsSome (numbers_of self.old flow.now) }
-        ensures ran { memory result keeps.new (kept_or [] (numbers_of self.new flow.now)) ≡
-            run_of transaction.now env.entry.now assigns.now (memory rank keeps.old (kept_or [] (numbers_of self.old flow.now))) }
-        ensures room { IsSome (numbers_of self.new flow.now) }
-        ensures others { (f : FlowKey) → f ≢ flow.now → numbers_of self.new f ≡
-            numbers_of self.old f }
-    {
-        match self.place(flow) {
-            Some(place) => run_for_place(
-                &mut self.numbers,
-                place,
-                form,
-                transaction,
-                assigns,
-                env,
-                rank,
-                keeps,
-            ),
-            None => unreachable!(),
-        }
     }
 }

@@ -1,18 +1,15 @@
-//! Steps of a known form, which run without reading their assignments.
+//! The forms of steps that run without reading their assignments.
 
-ghost use Rattle.std.specs.Prelude.{◌≡◌, ◌<◌, ◌≤◌, ◌∷◌, ℕ, [], length, map, IfSome};
+ghost use Rattle.std.specs.Prelude.{◌≡◌, ◌∷◌, ℕ, [], map, IfSome};
 ghost use Rattle.rank_defs.specs.declared.expression.Var.{Var as Name};
 ghost use Rattle.rank_defs.specs.Formulas.{formula_of};
 ghost use Rattle.rank_defs.specs.Values.{value_of};
-ghost use Rattle.rank_defs.specs.Programs.{Program, program_of, assignment_of, span_at, max_rank};
+ghost use Rattle.rank_defs.specs.Programs.{program_of, assignment_of};
 ghost use Rattle.rank_defs.specs.Shapes.{IsShaped, IsShapedAssignment};
-ghost use Rattle.rank_defs.specs.Steps.{run as run_program};
-ghost use Rattle.rank_core.specs.Forms.{latest, service, next, fair_lines, IsForm};
-ghost use Rattle.rank_core.specs.Runs.{CanRun};
-ghost use Rattle.rank_core.specs.Scope.{memory, run_of, AreShapedIn};
+ghost use Rattle.rank_core.specs.Forms.{latest, service, next, IsForm};
+ghost use Rattle.rank_core.specs.Scope.{AreShapedIn};
 
-use crate::step::run;
-use rank_defs::{Aim, Assign, Env, Expr, MAX_RANK, Op, Span, Transaction, Var};
+use rank_defs::{Aim, Assign, Expr, Op, Span, Transaction, Var};
 
 /// A step that writes the rank to a variable of the node, with that variable's range.
 #[derive(Clone, Copy, PartialEq, Eq, Debug)]
@@ -175,46 +172,4 @@ pub fn pop_form(transaction: &Transaction) -> Form
     ensures { IsForm (program_of transaction.now) (program_of transaction.now).pop result }
 {
     form_of(transaction, transaction.pop.as_slice())
-}
-
-/// Runs a push step of start-time fair queueing, and returns the rank.
-#[inline(always)]
-pub(crate) fn run_fair(fair: &Fair, env: &Env, keeps: &[u64], eaches: &mut [u64]) -> u64
-    requires keep { fair.now.keep < length keeps.now }
-    requires each { fair.now.each < length eaches.old }
-    requires weight { 1 ≤ env.now.weight }
-    requires ends { fair.now.span.low ≤ fair.now.span.high }
-    requires most { fair.now.span.high ≤ max_rank }
-    ensures { (p : Program) (r : ℕ) → fair.now.span ≡ span_at p.eaches fair.now.each →
-        memory result keeps.now eaches.new ≡ run_program p env.entry.now (fair_lines fair.now) (memory r keeps.now eaches.old) }
-{
-    let each = fair.each as usize;
-    let rank = keeps[fair.keep as usize].max(eaches[each]).min(MAX_RANK);
-    let service = u64::from(env.len) * u64::from(fair.scale) / u64::from(env.weight);
-    eaches[each] = rank
-        .saturating_add(service)
-        .clamp(fair.span.low, fair.span.high);
-    rank
-}
-
-/// Runs the assignments of a step like `run`, using the form of the step.
-#[inline(always)]
-pub(crate) fn run_by_form(
-    form: &Form,
-    transaction: &Transaction,
-    assigns: &[Assign],
-    env: &Env,
-    rank: u64,
-    keeps: &mut [u64],
-    eaches: &mut [u64],
-) -> u64
-    requires { CanRun transaction.now assigns.now form.now env.now
-        (memory rank keeps.old eaches.old) }
-    ensures { memory result keeps.new eaches.new ≡
-        run_of transaction.now env.entry.now assigns.now (memory rank keeps.old eaches.old) }
-{
-    match form {
-        Form::Fair(fair) => run_fair(fair, env, keeps, eaches),
-        _ => run(transaction, assigns, env, rank, keeps, eaches),
-    }
 }

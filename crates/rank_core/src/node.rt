@@ -2,19 +2,21 @@
 
 ghost use Rattle.std.specs.Prelude.{◌≡◌, ◌≢◌, ◌<◌, ◌≤◌, ◌↔◌, ℕ, length, slice_get, [], IsSome, Some, None, IfSome, IfOk, OnOk, OnErr};
 ghost use Rattle.rank_defs.specs.States.{SameState, Memory, memory_for, first_state, firsts, put_back};
-ghost use Rattle.rank_defs.specs.Steps.{push_rank, after_push, after_pop};
+ghost use Rattle.rank_defs.specs.Steps.{run as run_program, push_rank, after_push, after_pop};
 ghost use Rattle.rank_defs.specs.Shapes.{IsEnvInRange, IsStateInRange, IsShaped};
-ghost use Rattle.rank_defs.specs.Programs.{program_of, max_rank};
-ghost use Rattle.rank_defs.specs.Checks.{IsChecked};
+ghost use Rattle.rank_defs.specs.Programs.{Program, program_of, span_at, max_rank};
 ghost use Rattle.rank_core.specs.Flows.{numbers_at};
-ghost use Rattle.rank_core.specs.Node.{kept, kept_or, children, memory_at, state_of, children_of, BelongsTo, HasRoom, HasState, step_of};
-ghost use Rattle.rank_core.specs.Forms.{IsForm};
+ghost use Rattle.rank_core.specs.Node.{kept, kept_or, children, state_of, children_of, BelongsTo, HasRoom, HasState, step_of};
+ghost use Rattle.rank_core.specs.Forms.{fair_lines, IsForm};
 ghost use Rattle.rank_core.specs.Runs.{CanRun};
+ghost use Rattle.rank_core.specs.NodeSteps.{CanRunAt, KeepsNode};
 ghost use Rattle.rank_core.specs.Scope.{memory, run_of};
 
 use crate::flows::FlowTable;
-use crate::form::{Form, pop_form, push_form, run_by_form};
-use rank_defs::{Aim, Assign, Env, Expr, FlowKey, Span, Transaction, Var, Who};
+use crate::form::{Fair, Form, pop_form, push_form};
+use crate::step::run;
+use list_core::List;
+use rank_defs::{Aim, Assign, Env, Expr, FlowKey, MAX_RANK, Span, Transaction, Var, Who};
 use std::alloc::{AllocError, Global};
 
 /// The values of the `each` variables: for all children of an inner node, or for the flows that
@@ -129,14 +131,111 @@ impl NodeState {
     {
         match &mut self.eaches {
             Eaches::Bare => Ok(()),
-            Eaches::Flows(flows) => flows.reserve(flow, self.firsts.as_slice()),
+            Eaches::Flows(flows) => match flows.place(flow) {
+                Some(_) => Ok(()),
+                None => flows.add(flow, self.firsts.as_slice()),
+            },
             Eaches::Children(_) => unreachable!(),
         }
     }
 }
 
+/// Runs a push step of start-time fair queueing, and returns the rank.
+#[inline(always)]
+fn run_fair(fair: &Fair, env: &Env, keeps: &[u64], eaches: &mut [u64]) -> u64
+    requires keep { fair.now.keep < length keeps.now }
+    requires each { fair.now.each < length eaches.old }
+    requires weight { 1 ≤ env.now.weight }
+    requires ends { fair.now.span.low ≤ fair.now.span.high }
+    requires most { fair.now.span.high ≤ max_rank }
+    ensures { (p : Program) (r : ℕ) → fair.now.span ≡ span_at p.eaches fair.now.each →
+        memory result keeps.now eaches.new ≡ run_program p env.entry.now (fair_lines fair.now) (memory r keeps.now eaches.old) }
+{
+    let each = fair.each as usize;
+    let rank = keeps[fair.keep as usize].max(eaches[each]).min(MAX_RANK);
+    let service = u64::from(env.len) * u64::from(fair.scale) / u64::from(env.weight);
+    eaches[each] = rank
+        .saturating_add(service)
+        .clamp(fair.span.low, fair.span.high);
+    rank
+}
+
+/// Runs the assignments of a step on the variables of a node and on those at an index, using the
+/// form of the step.
+#[inline(always)]
+#[tactic(auto, using(crate::proofs::Lists::get_set_same, crate::proofs::Lists::get_set_other))]
+fn run_for_place(
+    values: &mut Vec<Vec<u64>>,
+    place: usize,
+    form: &Form,
+    transaction: &Transaction,
+    assigns: &List<Assign>,
+    env: &Env,
+    rank: u64,
+    keeps: &mut [u64],
+) -> u64
+    requires can { CanRun transaction.now assigns.now form.now env.now
+        (memory rank keeps.old (kept_or [] (numbers_at values.old.items (Some place)))) }
+    requires there { place < length values.old.items }
+    ensures ran { memory result keeps.new (kept_or [] (numbers_at values.new.items (Some place))) ≡
+        run_of transaction.now env.entry.now assigns.now (memory rank keeps.old (kept_or [] (numbers_at values.old.items (Some place)))) }
+    ensures others { (i : ℕ) → i ≢ place → slice_get values.new.items i ≡
+        slice_get values.old.items i }
+    ensures count { length values.new.items ≡ length values.old.items }
+{
+    let eaches = values[place].as_mut_slice();
+    match form {
+        Form::Fair(fair) => run_fair(fair, env, keeps, eaches),
+        _ => run(transaction, assigns, env, rank, keeps, eaches),
+    }
+}
+
+/// Runs the assignments of a step on the variables of a node and on those of one child or flow,
+/// using the form of the step.
+#[inline(always)]
+fn run_for(
+    state: &mut NodeState,
+    who: &Who,
+    form: &Form,
+    transaction: &Transaction,
+    assigns: &List<Assign>,
+    env: &Env,
+    rank: u64,
+) -> u64
+    requires can { CanRun transaction.now assigns.now form.now env.now
+        (memory_for who.now rank (state_of state.old)) }
+    requires room { HasRoom state.old who.now }
+    ensures rank { result ≡ (step_of transaction.now assigns.now who.now env.entry.now rank
+        state.old).rank }
+    ensures after { HasState state.new
+        (put_back who.now (step_of transaction.now assigns.now who.now env.entry.now rank state.old) (state_of state.old)) }
+    ensures room { (w : Who) → HasRoom state.new w ↔ HasRoom state.old w }
+    ensures children { children_of state.new ≡ children_of state.old }
+{
+    let keeps = state.keeps.as_mut_slice();
+    match &mut state.eaches {
+        Eaches::Children(values) => match who {
+            Who::Child(child) => {
+                let place = *child as usize;
+                run_for_place(values, place, form, transaction, assigns, env, rank, keeps)
+            }
+            Who::Flow(_) => unreachable!(),
+        },
+        Eaches::Flows(flows) => match who {
+            Who::Flow(flow) => match flows.place(flow) {
+                Some(place) => {
+                    let values = &mut flows.numbers;
+                    run_for_place(values, place, form, transaction, assigns, env, rank, keeps)
+                }
+                None => unreachable!(),
+            },
+            Who::Child(_) => unreachable!(),
+        },
+        Eaches::Bare => run(transaction, assigns, env, rank, keeps, &mut []),
+    }
+}
+
 /// Returns the rank, if the step only sets the rank to a variable of the environment.
-#[inline(never)]
 fn told_rank(assigns: &[Assign], env: &Env) -> Option<u64>
     requires told { IsEnvInRange env.now }
     ensures rank { IfSome result (λ r. (t : Transaction) (m : Memory) →
@@ -158,87 +257,15 @@ fn told_rank(assigns: &[Assign], env: &Env) -> Option<u64>
     }
 }
 
-/// Runs assignments on the variables of a node and on those of one child or flow, which has room.
-#[inline(always)]
-fn run_for(
-    eaches: &mut Eaches,
-    who: &Who,
-    form: &Form,
-    transaction: &Transaction,
-    assigns: &[Assign],
-    env: &Env,
-    rank: u64,
-    keeps: &mut [u64],
-) -> u64
-    requires can { CanRun transaction.now assigns.now form.now env.now
-        (memory_at rank keeps.old eaches.old who.now) }
-    requires room { IsSome (kept eaches.old who.now) }
-    ensures ran { memory_at result keeps.new eaches.new who.now ≡
-        run_of transaction.now env.entry.now assigns.now (memory_at rank keeps.old eaches.old who.now) }
-    ensures room { IsSome (kept eaches.new who.now) }
-    ensures others { (w : Who) → w ≢ who.now → kept eaches.new w ≡ kept eaches.old w }
-    ensures children { children eaches.new ≡ children eaches.old }
-{
-    match eaches {
-        Eaches::Children(values) => match who {
-            Who::Child(child) => {
-                run_for_place(
-                    values,
-                    *child as usize,
-                    form,
-                    transaction,
-                    assigns,
-                    env,
-                    rank,
-                    keeps,
-                )
-            }
-            Who::Flow(_) => unreachable!(),
-        },
-        Eaches::Flows(flows) => match who {
-            Who::Flow(flow) => flows.run_for(flow, form, transaction, assigns, env, rank, keeps),
-            Who::Child(_) => unreachable!(),
-        },
-        Eaches::Bare => run_by_form(form, transaction, assigns, env, rank, keeps, &mut []),
-    }
-}
-
-/// Runs assignments on the variables of a node and on those at an index.
-#[inline(always)]
-#[tactic(auto, using(crate::proofs::Lists::get_set_same, crate::proofs::Lists::get_set_other))]
-pub(crate) fn run_for_place(
-    values: &mut Vec<Vec<u64>>,
-    place: usize,
-    form: &Form,
-    transaction: &Transaction,
-    assigns: &[Assign],
-    env: &Env,
-    rank: u64,
-    keeps: &mut [u64],
-) -> u64
-    requires can { CanRun transaction.now assigns.now form.now env.now
-        (memory rank keeps.old (kept_or [] (numbers_at values.old.items (Some place)))) }
-    requires there { place < length values.old.items }
-    ensures ran { memory result keeps.new (kept_or [] (numbers_at values.new.items (Some place))) ≡
-        run_of transaction.now env.entry.now assigns.now (memory rank keeps.old (kept_or [] (numbers_at values.old.items (Some place)))) }
-    ensures others { (i : ℕ) → i ≢ place → slice_get values.new.items i ≡
-        slice_get values.old.items i }
-    ensures count { length values.new.items ≡ length values.old.items }
-{
-    let values = values[place].as_mut_slice();
-    run_by_form(form, transaction, assigns, env, rank, keeps, values)
-}
-
-/// Runs a step by its form. A step without assignments changes nothing. A step that sets the rank
-/// to a variable of the environment changes no variable. A step that stores the rank in a variable
-/// of the node looks up no child or flow.
-#[inline(always)]
-fn run_at(
+/// Runs a step of any form. One that only sets the rank to a variable of the environment changes
+/// no variable.
+#[inline(never)]
+fn run_lines(
     state: &mut NodeState,
     who: &Who,
     form: &Form,
     transaction: &Transaction,
-    assigns: &[Assign],
+    assigns: &List<Assign>,
     env: &Env,
     rank: u64,
 ) -> u64
@@ -252,48 +279,22 @@ fn run_at(
     ensures room { (w : Who) → HasRoom state.new w ↔ HasRoom state.old w }
     ensures children { children_of state.new ≡ children_of state.old }
 {
-    match form {
-        Form::Empty => return rank,
-        Form::Kept(kept) => {
-            state.keeps[kept.keep as usize] = rank.clamp(kept.span.low, kept.span.high);
-            return rank;
-        }
-        Form::Lines => {
-            if let Some(told) = told_rank(assigns, env) {
-                return told;
-            }
-        }
-        Form::Fair(_) => (),
+    match told_rank(assigns.as_slice(), env) {
+        Some(told) => told,
+        None => run_for(state, who, form, transaction, assigns, env, rank),
     }
-    let keeps = state.keeps.as_mut_slice();
-    run_for(
-        &mut state.eaches,
-        who,
-        form,
-        transaction,
-        assigns,
-        env,
-        rank,
-        keeps,
-    )
 }
 
 /// Runs the push step of a node for a packet of a child or a flow. Returns the packet's rank at the
 /// node.
 pub fn run_push(transaction: &Transaction, state: &mut NodeState, who: &Who, env: &Env) -> u64
-    requires shaped { IsShaped (program_of transaction.now) }
-    requires checked { IsChecked (program_of transaction.now) }
-    requires in_range { IsStateInRange (program_of transaction.now) (state_of state.old) }
-    requires room { HasRoom state.old who.now }
-    requires told { IsEnvInRange env.now }
+    requires can { CanRunAt transaction.now who.now env.now state.old }
     ensures rank { result ≡ push_rank (program_of transaction.now) who.now env.entry.now
         (state_of state.old) }
     ensures rank_limit { result ≤ max_rank }
     ensures after { HasState state.new (after_push (program_of transaction.now) who.now
         env.entry.now (state_of state.old)) }
-    ensures in_range { IsStateInRange (program_of transaction.now) (state_of state.new) }
-    ensures room { (w : Who) → HasRoom state.new w ↔ HasRoom state.old w }
-    ensures children { children_of state.new ≡ children_of state.old }
+    ensures keeps { KeepsNode transaction.now state.old state.new }
 {
     push_by_form(&push_form(transaction), transaction, state, who, env)
 }
@@ -308,43 +309,36 @@ pub fn push_by_form(
     env: &Env,
 ) -> u64
     requires form { IsForm (program_of transaction.now) (program_of transaction.now).push form.now }
-    requires shaped { IsShaped (program_of transaction.now) }
-    requires checked { IsChecked (program_of transaction.now) }
-    requires in_range { IsStateInRange (program_of transaction.now) (state_of state.old) }
-    requires room { HasRoom state.old who.now }
-    requires told { IsEnvInRange env.now }
+    requires can { CanRunAt transaction.now who.now env.now state.old }
     ensures rank { result ≡ push_rank (program_of transaction.now) who.now env.entry.now
         (state_of state.old) }
     ensures rank_limit { result ≤ max_rank }
     ensures after { HasState state.new (after_push (program_of transaction.now) who.now
         env.entry.now (state_of state.old)) }
-    ensures in_range { IsStateInRange (program_of transaction.now) (state_of state.new) }
-    ensures room { (w : Who) → HasRoom state.new w ↔ HasRoom state.old w }
-    ensures children { children_of state.new ≡ children_of state.old }
+    ensures keeps { KeepsNode transaction.now state.old state.new }
 {
-    let assigns = transaction.push.as_slice();
-    run_at(state, who, form, transaction, assigns, env, 0)
+    let assigns = &transaction.push;
+    match form {
+        Form::Fair(_) => run_for(state, who, form, transaction, assigns, env, 0),
+        _ => run_lines(state, who, form, transaction, assigns, env, 0),
+    }
 }
 
 /// Runs the pop step of a node, after a packet of a child or a flow was dequeued with this rank at
 /// the node.
 pub fn run_pop(transaction: &Transaction, state: &mut NodeState, who: &Who, rank: u64, env: &Env)
-    requires shaped { IsShaped (program_of transaction.now) }
-    requires checked { IsChecked (program_of transaction.now) }
-    requires in_range { IsStateInRange (program_of transaction.now) (state_of state.old) }
-    requires room { HasRoom state.old who.now }
-    requires told { IsEnvInRange env.now }
+    requires can { CanRunAt transaction.now who.now env.now state.old }
     requires rank { rank ≤ max_rank }
     ensures after { HasState state.new (after_pop (program_of transaction.now) who.now env.entry.now
         rank (state_of state.old)) }
-    ensures in_range { IsStateInRange (program_of transaction.now) (state_of state.new) }
-    ensures room { (w : Who) → HasRoom state.new w ↔ HasRoom state.old w }
-    ensures children { children_of state.new ≡ children_of state.old }
+    ensures keeps { KeepsNode transaction.now state.old state.new }
 {
     pop_by_form(&pop_form(transaction), transaction, state, who, rank, env);
 }
 
-/// Runs the pop step of a node like `run_pop`, using the form of the step.
+/// Runs the pop step of a node like `run_pop`, using the form of the step. A step without
+/// assignments changes nothing, and one that stores the rank in a variable of the node looks up no
+/// child or flow.
 #[inline(always)]
 pub fn pop_by_form(
     form: &Form,
@@ -355,18 +349,19 @@ pub fn pop_by_form(
     env: &Env,
 )
     requires form { IsForm (program_of transaction.now) (program_of transaction.now).pop form.now }
-    requires shaped { IsShaped (program_of transaction.now) }
-    requires checked { IsChecked (program_of transaction.now) }
-    requires in_range { IsStateInRange (program_of transaction.now) (state_of state.old) }
-    requires room { HasRoom state.old who.now }
-    requires told { IsEnvInRange env.now }
+    requires can { CanRunAt transaction.now who.now env.now state.old }
     requires rank { rank ≤ max_rank }
     ensures after { HasState state.new (after_pop (program_of transaction.now) who.now env.entry.now
         rank (state_of state.old)) }
-    ensures in_range { IsStateInRange (program_of transaction.now) (state_of state.new) }
-    ensures room { (w : Who) → HasRoom state.new w ↔ HasRoom state.old w }
-    ensures children { children_of state.new ≡ children_of state.old }
+    ensures keeps { KeepsNode transaction.now state.old state.new }
 {
-    let assigns = transaction.pop.as_slice();
-    run_at(state, who, form, transaction, assigns, env, rank);
+    match form {
+        Form::Empty => (),
+        Form::Kept(kept) => {
+            state.keeps[kept.keep as usize] = rank.clamp(kept.span.low, kept.span.high);
+        }
+        _ => {
+            run_lines(state, who, form, transaction, &transaction.pop, env, rank);
+        }
+    }
 }

@@ -11,6 +11,7 @@ ghost use Rattle.rank_defs.specs.Checks.{IsCheckedAssignment};
 ghost use Rattle.rank_core.specs.Scope.{memory, run_of, AreCheckedIn, AreShapedIn};
 
 use crate::evaluate::{Scope, clamped, narrow, number};
+use list_core::List;
 use rank_defs::{Aim, Assign, Env, MAX_RANK, Span, Transaction};
 
 /// The range of a rank.
@@ -24,7 +25,7 @@ const RANKS: Span = Span {
 /// assignment reads the variables as the earlier ones left them.
 pub(crate) fn run(
     transaction: &Transaction,
-    assigns: &[Assign],
+    assigns: &List<Assign>,
     env: &Env,
     rank: u64,
     keeps: &mut [u64],
@@ -40,7 +41,7 @@ pub(crate) fn run(
         run_of transaction.now env.entry.now assigns.now (memory rank keeps.old eaches.old) }
 {
     let mut current = rank;
-    for assign in assigns {
+    for assign in assigns.as_slice() {
         current = perform(transaction, assign, env, current, keeps, eaches);
     }
     current

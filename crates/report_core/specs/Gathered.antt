@@ -1,5 +1,6 @@
 -- A report as contracts see it.
-use Rattle.std.specs.Prelude.{ℕ, ◌≡◌, ◌+◌, ◌≤◌, Bool, Option, List, length}
+use Rattle.std.specs.Prelude.{ℕ, ◌≡◌, ◌+◌, ◌≤◌, Bool, Option, Result, List, length, is_ok, OnErr}
+use Rattle.outside_core.specs.Faults.{Rose}
 use Rattle.outside_core.specs.Written.{Appended}
 use Rattle.outside_core.specs.Text.{appended, IsCut}
 
@@ -19,6 +20,11 @@ Tells written sink report sink' report' bytes = Appended (text_of (written sink)
 -- a prefix of the text and the bytes after it was written
 abbrev pub CutsOff : {K : Type 0} → (K → Option (List ℕ)) → K → Gathered → K → List ℕ → Type 0
 CutsOff written sink report sink' bytes = IsCut (text_of (written sink) report) bytes (written sink')
+
+-- A call fails only if the sink does. More can be reported after it exactly if it didn't fail.
+pub record FailsAtSink {K X E : Type 0} (faults : K → ℕ) (result : Result X E) (sink sink' : K) (report : Gathered) : Type 0 where
+  pub cause : OnErr result (Rose (faults sink) (faults sink'))
+  pub live : report.live ≡ is_ok result
 
 -- the greatest number of bytes held between two calls
 abbrev pub limit : ℕ

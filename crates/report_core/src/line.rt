@@ -1,9 +1,7 @@
-//! The lines of a report as bytes, each written at an offset from its beginning to its end. The bytes
-//! after those written may change.
+//! The parts of a report's lines as bytes, each written at an offset. The bytes after those written
+//! may change.
 ghost use Rattle.std.specs.Prelude.{◌≡◌, ◌+◌, ◌*◌, ◌/◌, ◌<◌, ◌≤◌, [], ◌∷◌, ◌++◌, length, take, decimal};
-ghost use Rattle.text_core.specs.Tokens.{most_name};
-ghost use Rattle.outside_core.specs.Report.{arrival_line, departure_line, drop_line, empty_line, ranks_text};
-ghost use Rattle.report_core.specs.Gathered.{line_room};
+ghost use Rattle.outside_core.specs.Report.{ranks_text};
 
 use itoa::{Buffer, write_digits};
 use std::marker::Model;
@@ -14,119 +12,10 @@ pub const LINE: usize = 2_048;
 /// Room for the digits of any number, in bytes.
 const DIGITS: usize = 20;
 
-/// The leading digits of the numbers in earlier lines.
-#[derive(Drop)]
-pub struct Line {
-    events: Tens,
-    arrivals: Tens,
-    departures: Tens,
-}
-
-impl Line {
-    pub fn new() -> Line {
-        Line {
-            events: Tens::new(),
-            arrivals: Tens::new(),
-            departures: Tens::new(),
-        }
-    }
-
-    /// Writes the line of an arrival at an offset, and returns the offset after it. The other lines
-    /// work the same way.
-    #[inline(always)]
-    pub fn arrival(
-        &mut self,
-        line: &mut [u8],
-        at: usize,
-        event: u64,
-        packet: u64,
-        leaf: &str,
-        ranks: &[u64],
-    ) -> usize
-        requires leaf { length leaf.now ≤ most_name }
-        requires few { length ranks.now ≤ 65 }
-        requires room { at + line_room ≤ length line.old }
-        ensures text { take result line.new ≡ take at line.old ++ arrival_line event packet leaf.now
-            ranks.now }
-        ensures within { result ≤ length line.new }
-        ensures length { length line.new ≡ length line.old }
-    {
-        let event_at = put_array(line, at, *b"a ");
-        let packet_at = self.events.put(line, event_at, event, b' ');
-        let leaf_at = self.arrivals.put(line, packet_at, packet, b' ');
-        let leaf_end = put_name(line, leaf_at, leaf);
-        let end = put_ranks(line, leaf_end, ranks);
-        put_array(line, end, *b"\n")
-    }
-
-    #[inline(always)]
-    pub fn departure(
-        &mut self,
-        line: &mut [u8],
-        at: usize,
-        event: u64,
-        packet: u64,
-        leaf: &str,
-        ranks: &[u64],
-        start: Option<u128>,
-    ) -> usize
-        requires leaf { length leaf.now ≤ most_name }
-        requires few { length ranks.now ≤ 65 }
-        requires room { at + line_room ≤ length line.old }
-        ensures text { take result line.new ≡
-            take at line.old ++ departure_line event packet leaf.now ranks.now start }
-        ensures within { result ≤ length line.new }
-        ensures length { length line.new ≡ length line.old }
-    {
-        let event_at = put_array(line, at, *b"d ");
-        let packet_at = self.events.put(line, event_at, event, b' ');
-        let leaf_at = self.departures.put(line, packet_at, packet, b' ');
-        let leaf_end = put_name(line, leaf_at, leaf);
-        let ranks_end = put_ranks(line, leaf_end, ranks);
-        let Some(start) = start else {
-            return put_array(line, ranks_end, *b"\n");
-        };
-        let start_at = put_array(line, ranks_end, *b" ");
-        let end = put_wide(line, start_at, start);
-        put_array(line, end, *b"\n")
-    }
-
-    pub fn dropped(
-        &mut self,
-        line: &mut [u8],
-        at: usize,
-        event: u64,
-        packet: u64,
-        leaf: &str,
-    ) -> usize
-        requires leaf { length leaf.now ≤ most_name }
-        requires room { at + line_room ≤ length line.old }
-        ensures text { take result line.new ≡ take at line.old ++ drop_line event packet leaf.now }
-        ensures within { result ≤ length line.new }
-        ensures length { length line.new ≡ length line.old }
-    {
-        let event_at = put_array(line, at, *b"x ");
-        let packet_at = self.events.put(line, event_at, event, b' ');
-        let leaf_at = self.arrivals.put(line, packet_at, packet, b' ');
-        let end = put_name(line, leaf_at, leaf);
-        put_array(line, end, *b"\n")
-    }
-
-    pub fn empty(&mut self, line: &mut [u8], at: usize, event: u64) -> usize
-        requires room { at + line_room ≤ length line.old }
-        ensures text { take result line.new ≡ take at line.old ++ empty_line event }
-        ensures within { result ≤ length line.new }
-        ensures length { length line.new ≡ length line.old }
-    {
-        let event_at = put_array(line, at, *b"e ");
-        self.events.put(line, event_at, event, b'\n')
-    }
-}
-
 /// The digits of a number without its last one, stored for the next number. Numbers such as those of
 /// events follow one another, and the next one often differs only in its last digit.
 #[derive(Drop)]
-struct Tens {
+pub struct Tens {
     /// The least number with these digits.
     least: u64,
     count: usize,
@@ -145,7 +34,7 @@ impl Model for Tens {
 }
 
 impl Tens {
-    fn new() -> Tens {
+    pub fn new() -> Tens {
         Tens {
             least: 0,
             count: 0,
@@ -155,7 +44,7 @@ impl Tens {
 
     /// Writes the digits of a number and the byte after them.
     #[inline(always)]
-    fn put(&mut self, line: &mut [u8], at: usize, value: u64, after: u8) -> usize
+    pub fn put(&mut self, line: &mut [u8], at: usize, value: u64, after: u8) -> usize
         requires room { at + 22 ≤ length line.old }
         ensures text { take result line.new ≡ take at line.old ++ decimal value ++ after ∷ [] }
         ensures short { result ≤ at + 22 }
@@ -211,7 +100,7 @@ pub fn put_bytes(line: &mut [u8], at: usize, bytes: &[u8]) -> usize
 /// Writes a name in the same way. Most names are short: their first bytes and their last ones, which
 /// may overlap, are two reads and two writes.
 #[inline(always)]
-fn put_name(line: &mut [u8], at: usize, name: &str) -> usize
+pub fn put_name(line: &mut [u8], at: usize, name: &str) -> usize
     requires room { at + length name.now ≤ length line.old }
     ensures text { take result line.new ≡ take at line.old ++ name.now }
     ensures end { result ≡ at + length name.now }
@@ -232,7 +121,9 @@ fn put_name(line: &mut [u8], at: usize, name: &str) -> usize
         put_array(line, at, *first);
         return put_array(line, at + bytes.len() - 2, *last);
     }
-    put_bytes(line, at, bytes)
+    let end = at + bytes.len();
+    line[at..end].copy_from_slice(bytes);
+    end
 }
 
 /// Writes the digits of a number in the same way.
@@ -251,23 +142,24 @@ pub fn put_number(line: &mut [u8], at: usize, value: u64) -> usize
     end
 }
 
-/// Writes a number of up to 128 bits in the same way.
+/// Writes a space, and then a start in nanoseconds, in the same way.
 #[inline(always)]
-fn put_wide(line: &mut [u8], at: usize, value: u128) -> usize
-    requires room { at + 39 ≤ length line.old }
-    ensures text { take result line.new ≡ take at line.old ++ decimal value }
-    ensures short { result ≤ at + 39 }
+pub fn put_start(line: &mut [u8], at: usize, start: u128) -> usize
+    requires room { at + 40 ≤ length line.old }
+    ensures text { take result line.new ≡ take at line.old ++ 32 ∷ [] ++ decimal start }
+    ensures short { result ≤ at + 40 }
     ensures length { length line.new ≡ length line.old }
 {
-    match u64::try_from(value) {
-        Ok(value) => put_number(line, at, value),
-        Err(_) => put_bytes(line, at, Buffer::new().format(value).as_bytes()),
+    let start_at = put_array(line, at, *b" ");
+    match u64::try_from(start) {
+        Ok(start) => put_number(line, start_at, start),
+        Err(_) => put_bytes(line, start_at, Buffer::new().format(start).as_bytes()),
     }
 }
 
 /// Writes a space, and then ranks joined by `/`.
 #[inline(always)]
-fn put_ranks(line: &mut [u8], at: usize, ranks: &[u64]) -> usize
+pub fn put_ranks(line: &mut [u8], at: usize, ranks: &[u64]) -> usize
     requires few { length ranks.now ≤ 65 }
     requires room { at + 1366 ≤ length line.old }
     ensures text { take result line.new ≡ take at line.old ++ 32 ∷ [] ++ ranks_text ranks.now }

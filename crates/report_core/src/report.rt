@@ -1,17 +1,16 @@
 //! A report: lines that are gathered and passed on to the sink.
-ghost use Rattle.std.specs.Prelude.{◌≡◌, ◌≤◌, [], length, IsTrue, is_ok, IfOk, OnOk, OnErr};
-ghost use Rattle.outside_core.specs.Faults.{Rose};
+ghost use Rattle.std.specs.Prelude.{◌≡◌, ◌≤◌, [], length, IsTrue, IfOk, OnOk, OnErr};
 ghost use Rattle.outside_core.specs.Kept.{KeepsSink};
 ghost use Rattle.outside_core.specs.Written.{Appended};
 ghost use Rattle.text_core.specs.Tokens.{most_name};
 ghost use Rattle.outside_core.specs.Report.{arrival_line, departure_line, drop_line, empty_line, end_line, fault_line};
 ghost use Rattle.report_core.specs.Faults.{word_of};
-ghost use Rattle.report_core.specs.Gathered.{limit, text_of, Tells, CutsOff};
+ghost use Rattle.report_core.specs.Gathered.{limit, text_of, Tells, CutsOff, FailsAtSink};
 
 use crate::buffer::Buffer;
 use crate::fault::{FaultKind, WriteFault};
 use crate::last::{put_end, put_fault};
-use crate::line::Line;
+use crate::line::{Tens, put_array, put_name, put_ranks, put_start};
 use outside_core::Sink;
 use std::alloc::{AllocError, Global};
 use std::marker::Model;
@@ -21,7 +20,9 @@ use std::marker::Model;
 #[derive(Drop)]
 pub struct Report {
     buffer: Buffer,
-    line: Line,
+    events: Tens,
+    arrivals: Tens,
+    departures: Tens,
 }
 
 impl Model for Report {
@@ -42,7 +43,9 @@ impl Report {
     {
         Ok(Report {
             buffer: Buffer::new(alloc)?,
-            line: Line::new(),
+            events: Tens::new(),
+            arrivals: Tens::new(),
+            departures: Tens::new(),
         })
     }
 
@@ -71,18 +74,16 @@ impl Report {
         ensures cut { OnErr result (CutsOff K.written sink.old self.old sink.new
             (arrival_line event packet leaf.now ranks.now)) }
         ensures kept { KeepsSink K.written K.faults sink.old sink.new }
-        ensures cause { OnErr result (Rose (K.faults sink.old) (K.faults sink.new)) }
-        ensures live { self.new.live ≡ is_ok result }
+        ensures fails { FailsAtSink K.faults result sink.old sink.new self.new }
         ensures bounded { length self.new.unwritten ≤ limit }
     {
-        let end = self.line.arrival(
-            &mut self.buffer.bytes,
-            self.buffer.held,
-            event,
-            packet,
-            leaf,
-            ranks,
-        );
+        let line = self.buffer.bytes.as_mut_slice();
+        let event_at = put_array(line, self.buffer.held, *b"a ");
+        let packet_at = self.events.put(line, event_at, event, b' ');
+        let leaf_at = self.arrivals.put(line, packet_at, packet, b' ');
+        let ranks_at = put_name(line, leaf_at, leaf);
+        let ranks_end = put_ranks(line, ranks_at, ranks);
+        let end = put_array(line, ranks_end, *b"\n");
         self.buffer.close(sink, end)
     }
 
@@ -107,19 +108,19 @@ impl Report {
         ensures cut { OnErr result (CutsOff K.written sink.old self.old sink.new
             (departure_line event packet leaf.now ranks.now start)) }
         ensures kept { KeepsSink K.written K.faults sink.old sink.new }
-        ensures cause { OnErr result (Rose (K.faults sink.old) (K.faults sink.new)) }
-        ensures live { self.new.live ≡ is_ok result }
+        ensures fails { FailsAtSink K.faults result sink.old sink.new self.new }
         ensures bounded { length self.new.unwritten ≤ limit }
     {
-        let end = self.line.departure(
-            &mut self.buffer.bytes,
-            self.buffer.held,
-            event,
-            packet,
-            leaf,
-            ranks,
-            start,
-        );
+        let line = self.buffer.bytes.as_mut_slice();
+        let event_at = put_array(line, self.buffer.held, *b"d ");
+        let packet_at = self.events.put(line, event_at, event, b' ');
+        let leaf_at = self.departures.put(line, packet_at, packet, b' ');
+        let ranks_at = put_name(line, leaf_at, leaf);
+        let mut end = put_ranks(line, ranks_at, ranks);
+        if let Some(start) = start {
+            end = put_start(line, end, start);
+        }
+        let end = put_array(line, end, *b"\n");
         self.buffer.close(sink, end)
     }
 
@@ -132,13 +133,12 @@ impl Report {
         ensures cut { OnErr result (CutsOff K.written sink.old self.old sink.new
             (empty_line event)) }
         ensures kept { KeepsSink K.written K.faults sink.old sink.new }
-        ensures cause { OnErr result (Rose (K.faults sink.old) (K.faults sink.new)) }
-        ensures live { self.new.live ≡ is_ok result }
+        ensures fails { FailsAtSink K.faults result sink.old sink.new self.new }
         ensures bounded { length self.new.unwritten ≤ limit }
     {
-        let end = self
-            .line
-            .empty(&mut self.buffer.bytes, self.buffer.held, event);
+        let line = self.buffer.bytes.as_mut_slice();
+        let event_at = put_array(line, self.buffer.held, *b"e ");
+        let end = self.events.put(line, event_at, event, b'\n');
         self.buffer.close(sink, end)
     }
 
@@ -158,17 +158,15 @@ impl Report {
         ensures cut { OnErr result (CutsOff K.written sink.old self.old sink.new
             (drop_line event packet leaf.now)) }
         ensures kept { KeepsSink K.written K.faults sink.old sink.new }
-        ensures cause { OnErr result (Rose (K.faults sink.old) (K.faults sink.new)) }
-        ensures live { self.new.live ≡ is_ok result }
+        ensures fails { FailsAtSink K.faults result sink.old sink.new self.new }
         ensures bounded { length self.new.unwritten ≤ limit }
     {
-        let end = self.line.dropped(
-            &mut self.buffer.bytes,
-            self.buffer.held,
-            event,
-            packet,
-            leaf,
-        );
+        let line = self.buffer.bytes.as_mut_slice();
+        let event_at = put_array(line, self.buffer.held, *b"x ");
+        let packet_at = self.events.put(line, event_at, event, b' ');
+        let leaf_at = self.arrivals.put(line, packet_at, packet, b' ');
+        let leaf_end = put_name(line, leaf_at, leaf);
+        let end = put_array(line, leaf_end, *b"\n");
         self.buffer.close(sink, end)
     }
 
@@ -192,8 +190,7 @@ impl Report {
         ensures cut { OnErr result (CutsOff K.written sink.old self.old sink.new
             (end_line pushed popped empty held unsent dropped)) }
         ensures kept { KeepsSink K.written K.faults sink.old sink.new }
-        ensures cause { OnErr result (Rose (K.faults sink.old) (K.faults sink.new)) }
-        ensures live { self.new.live ≡ is_ok result }
+        ensures fails { FailsAtSink K.faults result sink.old sink.new self.new }
         ensures bounded { length self.new.unwritten ≤ limit }
     {
         let end = put_end(
@@ -225,8 +222,7 @@ impl Report {
         ensures cut { OnErr result (CutsOff K.written sink.old self.old sink.new
             (fault_line (word_of kind) code place)) }
         ensures kept { KeepsSink K.written K.faults sink.old sink.new }
-        ensures cause { OnErr result (Rose (K.faults sink.old) (K.faults sink.new)) }
-        ensures live { self.new.live ≡ is_ok result }
+        ensures fails { FailsAtSink K.faults result sink.old sink.new self.new }
         ensures bounded { length self.new.unwritten ≤ limit }
     {
         let end = put_fault(&mut self.buffer.bytes, self.buffer.held, kind, code, place);
@@ -240,8 +236,7 @@ impl Report {
         ensures ok { OnOk result (Tells K.written sink.old self.old sink.new self.new bytes.now) }
         ensures cut { OnErr result (CutsOff K.written sink.old self.old sink.new bytes.now) }
         ensures kept { KeepsSink K.written K.faults sink.old sink.new }
-        ensures cause { OnErr result (Rose (K.faults sink.old) (K.faults sink.new)) }
-        ensures live { self.new.live ≡ is_ok result }
+        ensures fails { FailsAtSink K.faults result sink.old sink.new self.new }
         ensures bounded { length self.new.unwritten ≤ limit }
     {
         self.buffer.put_or_send(sink, bytes)
@@ -254,8 +249,7 @@ impl Report {
         ensures ok { OnOk result (Tells K.written sink.old self.old sink.new self.new []) }
         ensures cut { OnErr result (CutsOff K.written sink.old self.old sink.new []) }
         ensures kept { KeepsSink K.written K.faults sink.old sink.new }
-        ensures cause { OnErr result (Rose (K.faults sink.old) (K.faults sink.new)) }
-        ensures live { self.new.live ≡ is_ok result }
+        ensures fails { FailsAtSink K.faults result sink.old sink.new self.new }
         ensures whole { OnOk result (Appended (text_of (K.written sink.old) self.old)
             (K.written sink.new) []) }
         ensures none_left { OnOk result (self.new.unwritten ≡ []) }

@@ -1,7 +1,9 @@
 -- The contents left of a capture, as packets to read.
-use Rattle.sched_capture.proofs.Prelude.{◌≡◌, List, Some, ℕ, None, Option, sym, subst, ap, ◌∙◌, [], refl, ◌+◌, Result, ◌∷◌, Err, Ok, Bool, false, true, if◌then◌else◌, true≢false, IfSome, option_map, IfOk, ReadError, Packet, Opens, Comes, IsAt, StopsAt, nothing_left, IsOneLess, fault_told, rest_of, FileContents, holds, no_capture, Contents, CapturedPacket, Resolved, Captured, StaysKnown, Came, IsKnownAs, IsOver, IsReadError, OneCame, Refuses, AreCaptured, AreCapturedIn, left_in, IsNext, packet_told, packet_of, packets_from}
+use Rattle.sched_capture.proofs.Prelude.{◌≡◌, List, Some, ℕ, None, Option, is_some, sym, subst, ap, ◌∙◌, [], ◌+◌, Result, ◌∷◌, Err, Ok, Bool, false, true, if◌then◌else◌, true≢false, IfSome, option_map, IfOk, ReadError, Packet, Opens, Comes, StopsAt, nothing_left, IsOneLess, fault_told, rest_of, FileContents, holds, no_capture, Contents, CapturedPacket, Resolved, Captured, StaysKnown, Came, IsNextPacket, IsReadError, OneCame, Refuses, AreCaptured, AreCapturedIn, left_in, IsNext, packet_told, packet_of, packets_from}
 use Rattle.outside_core.specs.declared.read_error.ReadError.TheVariants.{Fault, Source, Memory}
+use Rattle.std.specs.Prelude.{IfNone}
 use Rattle.sched_capture.specs.Arrivals.{Begins}
+use Rattle.sched_capture.specs.NextPacket.{IsEnd}
 use Rattle.sched_capture.proofs.CapturedBytes.{bytes_of_next, bytes_of_others}
 
 -- ---- after the beginning
@@ -65,24 +67,33 @@ module _ (policy : Resolved) (n : ℕ) where
 
   -- the next packet is the first of those left, and these are its captured bytes
   pub record Gives (next : ℕ) (old new : Option Contents) (p : Packet) (captured : List ℕ) : Type 0 where
-    pub came : Came (option_map (left_in policy n) old) (option_map (left_in policy next) new) (p ∷ [])
-    pub bytes : IsKnownAs (AreCaptured old n) p.number captured
+    pub packet : IsNextPacket policy.policy n (option_map (left_in policy n) old) (option_map (left_in policy next) new) (AreCaptured old n) p captured
     pub known : StaysKnown (AreCaptured old n) (AreCaptured new next)
 
   pub gives : (next : ℕ) (old new : Option Contents) (link : ℕ) (p : Packet) (captured : List ℕ) → next ≡ n + 1 → IsNext policy n old new link p captured → Gives next old new p captured
   gives next old new link p captured one is = record {
-    came = came_next next old new link p captured one is;
-    bytes = λ all are. rw (number old new link p captured is) (bytes_of_next n old new (packet_told link p captured) is.comes all are);
+    packet = record {
+      number = number old new link p captured is;
+      sendable = is.sendable;
+      came = came_next next old new link p captured one is;
+      bytes = λ all are. rw (number old new link p captured is) (bytes_of_next n old new (packet_told link p captured) is.comes all are);
+      short = is.short;
+    };
     known = λ all are. bytes_of_others n next old new (packet_told link p captured) one is.comes all are;
   }
 
-  -- ---- the end
-  pub ends : (next : ℕ) (old new : Option Contents) → IsAt None old → new ≡ Some nothing_left → Came (option_map (left_in policy n) old) (option_map (left_in policy next) new) []
-  ends next None new at over = tt
-  ends next (Some old) new at over = rw (over) (ap (packets_from policy (n + 1)) at.0, at.1)
-
-  pub is_over : (new : Option Contents) → new ≡ Some nothing_left → IsOver (option_map (left_in policy n) new)
-  is_over new over = rw (over) (refl, refl)
-
+-- ---- the end
 pub none_known : (known : Captured → Type 0) (n : ℕ) (new : Option Contents) → new ≡ Some nothing_left → StaysKnown known (AreCaptured new n)
 none_known known n new over bytes are = rw (over) tt
+
+-- ---- what a call returns, if it returns the link type of a packet that it read
+module _ (policy : Resolved) (n next : ℕ) (old new : Option Contents) (p : Packet) (captured : List ℕ) where
+  pub packet_of_call : (o : Option ℕ) → next ≡ n + (if is_some o then 1 else 0) → IfSome o (λ link. IsNext policy n old new link p captured)
+      → is_some o ≡ true → IsNextPacket policy.policy n (option_map (left_in policy n) old) (option_map (left_in policy next) new) (AreCaptured old n) p captured
+  packet_of_call None one is some = absurd (true≢false (sym some))
+  packet_of_call (Some link) one is some = (gives policy n next old new link p captured one is).packet
+
+  pub known_of_call : (o : Option ℕ) → next ≡ n + (if is_some o then 1 else 0) → IfSome o (λ link. IsNext policy n old new link p captured) → IfNone o (IsEnd old new)
+      → StaysKnown (AreCaptured old n) (AreCaptured new next)
+  known_of_call None one is ended = none_known (AreCaptured old n) next new ended.over
+  known_of_call (Some link) one is ended = (gives policy n next old new link p captured one is).known

@@ -32,7 +32,7 @@ pub use Rattle.report_core.specs.Gathered.{text_of}
 pub use Rattle.sched_defs.proofs.Soundness.{sound_start}
 pub use Rattle.sched_defs.specs.Events.{outcomes, Event, Departed, after, Arrived, CanMake, Dropped, Empty, Outcome, asked_in, pushed_in}
 pub use Rattle.sched_defs.specs.Numbered.{IsSendable, IsHeldBelow, AreNumberedFrom}
-pub use Rattle.sched_defs.specs.Packets.{Captured, Left, StaysKnown, captured_from, AreThere, Came, IsKnownAs, IsOver, IsReadError, OneCame}
+pub use Rattle.sched_defs.specs.Packets.{Captured, Left, StaysKnown, captured_from, AreThere, Came, IsNextPacket, IsReadError, OneCame}
 pub use Rattle.sched_defs.specs.Script.{Course}
 pub use Rattle.sched_defs.specs.SourceState.{start, SourceState}
 pub use Rattle.sched_defs.specs.declared.ending.Ending.{Ending}

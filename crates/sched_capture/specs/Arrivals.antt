@@ -9,7 +9,7 @@ use Rattle.sched_defs.specs.Packets.{Left, Captured, most_packets}
 use Rattle.outside_core.specs.declared.read_error.ReadError.{ReadError}
 use Rattle.outside_core.specs.declared.read_error.ReadError.TheVariants.{Fault}
 use Rattle.sched_capture.specs.Packets.{packets_from}
-use Rattle.sched_capture.specs.declared.arrivals.Arrivals.{Arrivals}
+use Rattle.sched_capture.specs.declared.capture_packets.Arrivals.{Arrivals}
 
 -- the policy that gives each packet its class
 abbrev pub resolved_of : {R S : Type 0} → Arrivals R S → Resolved

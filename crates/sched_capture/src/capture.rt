@@ -22,7 +22,7 @@ use policy_core::Policy;
 use report_core::{FaultKind, Report, write_fault};
 use sched_core::{Direct, Scheduler};
 use sched_defs::Ending;
-use sched_run::{Pace, Recorder, Run};
+use sched_run::{NameTable, Pace, Recorder, Run};
 use std::alloc::{AllocError, Global};
 use tap_core::{Named, Tap, Watching};
 use tree_core::SourceTree;
@@ -93,7 +93,7 @@ pub fn direct_run<'a, W: Recorder>(
     alloc: Global,
     policy: &'a Policy,
     recorder: W,
-) -> Result<(Run<'a, Direct<'a>, Policy, W>, SourceTree), AllocError>
+) -> Result<(Run<Direct<'a>, NameTable<'a>, W>, SourceTree), AllocError>
     requires live { W.live recorder }
 
     ensures start { IfOk result (λ r. IsAtStart ⟦<Direct<'a> as Scheduler>⟧ W.Recorder (λ p.
@@ -101,10 +101,11 @@ pub fn direct_run<'a, W: Recorder>(
     ensures fresh { IfOk result (λ r. IsFresh r.0.tally) }
     ensures recorder { IfOk result (λ r. r.0.recorder ≡ recorder) }
 {
+    let names = NameTable::new(alloc, policy)?;
     let (scheduler, tree) = Direct::new(alloc, policy)?;
     let run = Run::new(
         alloc,
-        policy,
+        names,
         policy.depth(),
         policy.version(),
         scheduler,

@@ -19,14 +19,14 @@ use policy_core::Policy;
 use report_core::Report;
 use sched_core::Scheduler;
 use sched_defs::Ending;
-use sched_run::{Pace, Recorder, Run};
+use sched_run::{NameTable, Pace, Recorder, Run};
 use tap_core::{Tap, Watching};
 
 /// Runs the packets of a capture through any scheduler of this policy that represents the start,
 /// and writes the report. Taps watch from the beginning of the run.
 pub fn run_over<C: Scheduler + Drop, S: Shelf, K: Sink, T: Tap>(
     policy: &Policy,
-    run: &mut Run<'_, C, Policy, Report>,
+    run: &mut Run<C, NameTable<'_>, Report>,
     under: &mut C::Under,
     pace: Pace<'_>,
     packets: &mut CapturePackets<'_, S>,

@@ -34,7 +34,7 @@ use pcap_core::put_head;
 use policy_core::Policy;
 use sched_core::Scheduler;
 use sched_defs::{Ending, LinkRate};
-use sched_run::{Recorder, Run};
+use sched_run::{NameTable, Recorder, Run};
 use std::alloc::Global;
 use tap_core::{Named, OrderTap, Watching};
 
@@ -158,7 +158,7 @@ fn begin_one_link<'a, S: Shelf, K: Sink>(
 /// start, and writes a record for each departure.
 fn forward_over<C: Scheduler + Drop, S: Shelf, K: Sink>(
     policy: &Policy,
-    run: &mut Run<'_, C, Policy, Forwarding>,
+    run: &mut Run<C, NameTable<'_>, Forwarding>,
     under: &mut C::Under,
     rate: LinkRate,
     packets: &mut SingleLinkType<'_, S>,

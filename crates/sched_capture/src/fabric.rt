@@ -27,7 +27,7 @@ use report_core::Report;
 use sched_core::Scheduler;
 use sched_defs::Ending;
 use sched_embedded::Embedded;
-use sched_run::{Pace, Recorder, Run};
+use sched_run::{NameTable, Pace, Recorder, Run};
 use std::alloc::{AllocError, Global};
 use tap_core::{Tap, Watching};
 
@@ -46,7 +46,7 @@ pub fn run_through<'a, F: Fabric, W: Recorder>(
     placement: Placement,
     recorder: W,
     fabric: &mut F,
-) -> Result<Run<'a, Embedded<'a, F>, Policy, W>, AllocError>
+) -> Result<Run<Embedded<'a, F>, NameTable<'a>, W>, AllocError>
     requires placed { IsPlaced policy.now.policy placement }
     requires counts { CanCount F.Fabric fabric.old }
     requires live { W.live recorder }
@@ -62,10 +62,11 @@ pub fn run_through<'a, F: Fabric, W: Recorder>(
         LeavesPart F.Fabric (Some (record { policy = policy.now.policy; laid = laid_by placement; events = events })) fabric.old fabric.new) }
 {
     let Placement { target, map } = placement;
+    let names = NameTable::new(alloc, policy)?;
     let scheduler = Embedded::new(alloc, policy, map, &target, fabric)?;
     let run = Run::new(
         alloc,
-        policy,
+        names,
         policy.depth(),
         policy.version(),
         scheduler,

@@ -4,7 +4,6 @@
 //! load. Begin with specs/CapturePackets.antt and specs/Answers.antt.
 #![tactic(auto)]
 
-mod arrivals;
 mod capture;
 mod capture_packets;
 mod course;
@@ -16,9 +15,8 @@ mod load;
 mod single_link_type;
 mod task;
 
-pub use arrivals::Arrivals;
 pub use capture::{begin, direct, direct_run};
-pub use capture_packets::CapturePackets;
+pub use capture_packets::{Arrivals, CapturePackets};
 pub use course::run_over;
 pub use departures::{ForwardEnding, forward, forward_own};
 pub use fabric::{Placement, replay, run_through};

@@ -15,7 +15,7 @@ use fabric_core::Fabric;
 use outside_core::{Sink, Stop};
 use policy_core::Policy;
 use sched_core::Scheduler;
-use sched_run::{DepartureSum, Recorder, Run};
+use sched_run::{DepartureSum, NameTable, Recorder, Run};
 use std::alloc::Global;
 use tap_core::{Named, Tap, Watching};
 
@@ -40,7 +40,7 @@ pub struct LoadSize {
 /// start, and then departures until no packet is queued.
 fn count_load<C: Scheduler + Drop, K: Sink>(
     policy: &Policy,
-    run: &mut Run<'_, C, Policy, DepartureSum>,
+    run: &mut Run<C, NameTable<'_>, DepartureSum>,
     under: &mut C::Under,
     load: LoadSize,
     sink: &mut K,

@@ -1,6 +1,6 @@
 -- The packets in chunks, as they arrive and depart.
-use Rattle.sched_core.proofs.Prelude.{arith, ◌≡◌, ap, ◌∙◌, sym, ℕ, List, length, subst, Some, ◌<◌, [], refl, ◌∷◌, Option, None, ◌+◌, ◌≤◌, get_or, suc, zero, ◌++◌, if◌then◌else◌, ◌==◌, Bool, false, drop, set, true, ◌%◌, ◌&&◌, ◌≢◌, IfSome, ◌/◌, Packet, packet_within, packet_of, packet_in, Chunk, Slot}
-use Rattle.sched_core.proofs.SlotLaws.{if_same, if_other, split, named}
+use Rattle.sched_core.proofs.Prelude.{arith, ◌≡◌, ap, ◌∙◌, sym, ℕ, List, length, subst, Some, ◌<◌, [], refl, ◌∷◌, Option, None, ◌+◌, ◌≤◌, get_or, suc, zero, ◌++◌, if◌then◌else◌, ◌==◌, Bool, false, drop, set, true, ◌%◌, ◌&&◌, ◌≢◌, IfSome, ◌/◌, ◌-◌, ◌^◌, nat_lt, ltb-true, ltb-false, Packet, packet_within, packet_of, Chunk}
+use Rattle.sched_core.proofs.SlotLaws.{if_same, if_other, split, by_bool, named}
 
 pub here : (first : ℕ) (c : Chunk) (cs : List Chunk) (n : ℕ) → n / 64 ≡ first → packet_within first (c ∷ cs) n ≡ packet_of c n
 here first c cs n e = if_same (n / 64) first (packet_of c n) (packet_within (first + 1) cs n) e
@@ -86,25 +86,29 @@ pub found-self : (first : ℕ) (cs : List Chunk) (n : ℕ) → IfSome (packet_wi
 found-self first cs n = self-named (packet_within first cs) n (packet_within first cs n) refl (found-named first cs n)
 
 -- ---- a packet is added to a chunk, or not
-renamed : (slot : Slot) (p : Packet) (n : ℕ) (o : Option Packet) → packet_in p.number slot ≡ p → (if n == p.number then Some (packet_in n slot) else o) ≡ (if n == p.number then Some p else o)
-renamed slot p n o is = split n p.number
-    (λ same. if_same n p.number (Some (packet_in n slot)) o same ∙ ap Some (ap (λ (z : ℕ). packet_in z slot) same ∙ is) ∙ sym (if_same n p.number (Some p) o same))
-    (λ other. if_other n p.number (Some (packet_in n slot)) o other ∙ sym (if_other n p.number (Some p) o other))
+unchanged : (b : Bool) (n m : ℕ) (a o : Option Packet) → n ≢ m → (if b && (n == m) then a else o) ≡ o
+unchanged true n m a o ne = if_other n m a o ne
+unchanged false n m a o ne = refl
 
-pub stood : (first : ℕ) (cs : List Chunk) (k : ℕ) (d c : Chunk) (slot : Slot) (p : Packet) (b : Bool) (n : ℕ) → k < length cs → p.number / 64 ≡ first + k → d ≡ get_or cs k d
-    → b ≡ true → slot.place ≡ p.number % 64 → packet_in p.number slot ≡ p → packet_of c n ≡ (if b && (n % 64 == slot.place) then Some (packet_in n slot) else packet_of d n)
-    → packet_within first (set cs k c) n ≡ (if n == p.number then Some p else packet_within first cs n)
-stood first cs k d c slot p b n h e at on place is f =
-    within-changed first cs k d c p.number n (Some (packet_in n slot)) h e
-    (f ∙ ap (λ (t : Bool). if t && (n % 64 == slot.place) then Some (packet_in n slot) else packet_of d n) on
-    ∙ ap (λ (z : ℕ). if n % 64 == z then Some (packet_in n slot) else packet_of d n) place
-    ∙ ap (λ (x : Chunk). if n % 64 == p.number % 64 then Some (packet_in n slot) else packet_of x n) at)
-    ∙ renamed slot p n (packet_within first cs n) is
+pub within-added : (first : ℕ) (cs : List Chunk) (k : ℕ) (d c : Chunk) (p : Packet) (b : Bool) (n : ℕ) → k < length cs → p.number / 64 ≡ first + k → d ≡ get_or cs k d
+    → (n / 64 ≡ p.number / 64 → packet_of c n ≡ (if b && (n == p.number) then Some p else packet_of d n))
+    → packet_within first (set cs k c) n ≡ (if b && (n == p.number) then Some p else packet_within first cs n)
+within-added first cs k d c p b n h e at f = split (n / 64) (first + k)
+    (λ same. within-set_here first cs k c n h same ∙ f (same ∙ sym e)
+    ∙ ap (λ (o : Option Packet). if b && (n == p.number) then Some p else o) (ap (λ (x : Chunk). packet_of x n) at ∙ sym (within-at first cs k d n h same)))
+    (λ other. within-set_other first cs k c n h other ∙ sym (unchanged b n p.number (Some p) (packet_within first cs n) (λ r. other (ap (λ (z : ℕ). z / 64) r ∙ e))))
 
-pub not-stood : (first : ℕ) (cs : List Chunk) (k : ℕ) (d c : Chunk) (b t : Bool) (o : Option Packet) (n : ℕ) → k < length cs → d ≡ get_or cs k d
-    → b ≡ false → packet_of c n ≡ (if b && t then o else packet_of d n) → packet_within first (set cs k c) n ≡ packet_within first cs n
-not-stood first cs k d c b t o n h at off f =
-    within-same first cs k d c n h (f ∙ ap (λ (z : Bool). if z && t then o else packet_of d n) off ∙ ap (λ (x : Chunk). packet_of x n) at)
+-- ---- the index of a number's chunk; for a chunk before the first the difference wraps
+abbrev pub index_from : ℕ → ℕ → ℕ
+index_from first chunk = (chunk + (2 ^ 64 - first)) % 2 ^ 64
+
+pub index-is : (first k n : ℕ) → first + k ≤ 2 ^ 57 → n < 2 ^ 64 → index_from first (n / 64) < k → n / 64 ≡ first + index_from first (n / 64)
+index-is first k n low small within = omega (arith, low, small, within)
+
+pub index-past : (first : ℕ) (cs : List Chunk) (n : ℕ) → first + length cs ≤ 2 ^ 57 → n < 2 ^ 64 → length cs ≤ index_from first (n / 64) → packet_within first cs n ≡ None
+index-past first cs n low small past = by_bool (nat_lt (n / 64) first)
+    (λ before. within-before first cs n (ltb-true (n / 64) first before))
+    (λ behind. within-behind first cs n (omega (arith, ltb-false (n / 64) first behind, low, small, past)))
 
 -- ---- a packet is removed from a chunk
 pub taken : (first : ℕ) (cs : List Chunk) (k : ℕ) (d c : Chunk) (m n : ℕ) → k < length cs → m / 64 ≡ first + k → d ≡ get_or cs k d

@@ -7,9 +7,10 @@ use Rattle.std.specs.Prelude.{Bool, is_some, unwrap_or}
 use Rattle.rank_defs.specs.declared.environment.FlowKey.{FlowKey}
 use Rattle.rank_defs.specs.States.{same_flow}
 use Rattle.rank_defs.proofs.OtherStates.{same_flow-is, same_flow-refl}
-use Rattle.sched_core.specs.NodeTotals.{key_of, has_key, entry_of, count_in, is_in_flow}
-use Rattle.sched_core.specs.contracts.node_totals.OrderedKeyOrd.TheImpl.{cmp-value}
-use Rattle.sched_core.specs.declared.node_totals.OrderedKey.{OrderedKey}
+use Rattle.sched_core.specs.NodeTotals.{entry_of, count_in, is_in_flow}
+use Rattle.rank_core.specs.FlowKeys.{key_of, has_key}
+use Rattle.rank_core.specs.contracts.flows.OrderedKeyOrd.TheImpl.{cmp-value}
+use Rattle.rank_core.specs.declared.flows.OrderedKey.{OrderedKey}
 
 -- in the order, a flow's key equals no other flow's key
 tied : (f : FlowKey) (k : OrderedKey) → is_eq (cmp-value.it (key_of f) k) ≡ has_key f k

@@ -1,5 +1,5 @@
 -- The totals that limits need, in the states before and after an arrival and a departure.
-use Rattle.std.proofs.Common.{arith, ◌≡◌, ap, ◌∙◌, sym, ℕ, List, length, subst, Some, None, Option, rules, inl, inr, ◌<◌, [], ◌∷◌, refl, ◌+◌, ◌≤◌, ◌^◌, suc, zero, take, Bool, true, false, ◌≢◌, ◌||◌, if◌then◌else◌, IfSome, IsSome}
+use Rattle.std.proofs.Common.{arith, ◌≡◌, ap, ◌∙◌, sym, ℕ, List, length, subst, Some, None, Option, rules, inl, inr, ◌<◌, [], ◌∷◌, refl, ◌+◌, ◌≤◌, ◌^◌, suc, zero, take, Bool, true, false, ◌≢◌, ◌||◌, if◌then◌else◌, IfSome, IsSome, is_some, true≢false}
 use Rattle.std.proofs.lemmas.Bool.{cases_order}
 use Rattle.std.proofs.lemmas.Option.{slice_get_within}
 use Rattle.std.specs.Prelude.{slice_get}
@@ -25,7 +25,7 @@ use Rattle.sched_defs.proofs.Totals.{total-pushed, total-left_leaf, total-start,
 use Rattle.sched_core.specs.Waypoints.{IsClassPath}
 use Rattle.sched_core.specs.declared.path_node.ClassPath.{ClassPath}
 use Rattle.sched_core.specs.NodeTotals.{Amounts, nothing, raised, lowered}
-use Rattle.sched_core.specs.Totals.{Values, IsPath, AreInside, AreApart, HaveRoom, AreFew, IsTotal, AreTotals, AreKept, AreSized, MayTotals, HaveRoomTo, IsLeafLimit, HaveLeafLimits, with_one_more, with_one_fewer, amounts_in}
+use Rattle.sched_core.specs.Totals.{Values, IsPath, AreInside, AreApart, HaveRoom, AreFew, IsTotal, AreTotals, AreKept, AreSized, MayTotals, HaveRoomTo, HasTotalsRoom, IsLeafLimit, HaveLeafLimits, with_one_more, with_one_fewer, amounts_in}
 use Rattle.sched_core.specs.declared.node_totals.NodeTotals.{NodeTotals}
 use Rattle.sched_core.specs.declared.path_node.PathNode.{PathNode}
 use Rattle.sched_core.proofs.Prefixes.{same-number, prefix-there, prefix-over, over-prefix, over-short, prefix-length}
@@ -225,3 +225,12 @@ module _ (policy : Policy) (p : Packet) (s : SourceState) (accepted : IsAccepted
           take_whole : (b : Address) → take (length b) b ≡ b
           take_whole [] = refl
           take_whole (i ∷ b) = ap (λ (c : Address). i ∷ c) (take_whole b)
+
+-- without totals no room is needed, and nothing is counted
+pub no-totals : (policy : Policy) (p : Packet) (totals : MayTotals) → is_some totals ≡ false → HasTotalsRoom policy p totals
+no-totals policy p None e = tt
+no-totals policy p (Some t) e = absurd (true≢false e)
+
+pub none-counted : (policy : Policy) (totals : MayTotals) (values others : Values) → is_some totals ≡ false → AreKept policy totals values → AreKept policy totals others
+none-counted policy None values others e h = h
+none-counted policy (Some t) values others e h = absurd (true≢false e)

@@ -1,11 +1,15 @@
 -- A step of one node on the path.
-use Rattle.sched_core.proofs.Prelude.{arith, ◌≡◌, ap, ◌∙◌, sym, ℕ, List, length, subst, Some, ◌<◌, [], refl, ◌∷◌, ◌≤◌, ◌++◌, ◌↔◌, append-nil, drop_all, take-append-drop, slice_get-get_or, slice_get, slice_index_or, slice_set, slice_index, address_at, told, AreMarksInRange, Node, IsForm, RunAs, HasRoom, state_of, children_of, NodeState, same-trans, after_pop-same, after_push-same, push_step-same, max_rank, Program, IsStateInRange, SameState, State, after_push, after_pop, push_rank, Env, Who, Child, Flow, Visit, States, after_pops, after_pushes, env_for, rank_at, with_state, Tree, Address, LeadsToLeaf, inner, leaf, root_of, Option, option_map_or, subtree, part_at, HaveValues, AreStations, HasRoomAt, IsStationOf, Keeps, marks_on, rank_told, IsWaypoint, tree_for, class_for, IsReady, ForValues, KeepsRoom, stop, ahead, part, place, who_on, HasRoomAtLeaf, IsAtLevel, ValuesBecome, PacketPath, PathNode}
+use Rattle.sched_core.proofs.Prelude.{arith, ◌≡◌, ap, ◌∙◌, sym, ℕ, List, length, subst, Some, ◌<◌, [], refl, ◌∷◌, ◌≤◌, ◌++◌, ◌↔◌, append-nil, drop_all, take-append-drop, slice_get-get_or, slice_get, slice_index_or, slice_set, slice_index, address_at, told, AreMarksInRange, IsNodeReady, IsShaped, Node, IsForm, RunAs, HasRoom, state_of, children_of, NodeState, same-trans, after_pop-same, after_push-same, push_step-same, max_rank, Program, IsStateInRange, SameState, State, after_push, after_pop, push_rank, Env, Who, Child, Flow, Visit, States, after_pops, after_pushes, env_for, rank_at, with_state, Tree, Address, LeadsToLeaf, inner, leaf, root_of, Option, option_map_or, subtree, part_at, HaveValues, AreStations, HasRoomAt, IsStationOf, Keeps, marks_on, rank_told, IsWaypoint, tree_for, class_for, IsReady, ForValues, KeepsRoom, stop, ahead, part, place, who_on, HasRoomAtLeaf, IsAtLevel, ValuesBecome, PacketPath, PathNode}
 use Rattle.rank_defs.specs.declared.environment.FlowKey.{FlowKey}
 use Rattle.rank_defs.specs.declared.flow_group.FlowGroup.{FlowGroup}
 use Rattle.rank_defs.specs.declared.flow_group.FlowGroup.TheVariants.{FiveTuple}
 use Rattle.rank_defs.specs.FlowGroups.{grouped}
 use Rattle.rank_core.specs.declared.form.Form.TheVariants.{Empty}
+use Rattle.rank_defs.specs.Checks.{IsChecked}
+use Rattle.rank_defs.specs.Shapes.{IsEnvInRange}
+use Rattle.rank_core.specs.NodeSteps.{CanRunAt, KeepsNode}
 use Rattle.policy_defs.specs.Policy.{Class, Marks, group_at}
+use Rattle.sched_core.specs.Waypoints.{program_at}
 use Rattle.sched_core.proofs.TreeParts.{IsNext, next, node-of_part, part-down}
 use Rattle.sched_core.proofs.Levels.{there-at, leads-at, number-of, ahead-next}
 use Rattle.sched_core.proofs.RanksTold.{told-low, told-rank, told-after, no_lines-after}
@@ -27,12 +31,10 @@ pub record IsHere (e : PacketPath) (level : ℕ) (s : PathNode) (states : List N
   pub kept : AreStations (tree_for e) states
   pub within : s.node < length states
 
--- a step there: the state at the node's number, and the program, the child or flow, and the inputs
--- of the visit
-pub record IsStep (e : PacketPath) (level : ℕ) (s : PathNode) (states : List NodeState) (x : NodeState) (p : Program) (w : Who) (n : Env) : Type 0 where
+-- a step there: the state at the node's number, and the child or flow and the inputs of the visit
+pub record IsStep (e : PacketPath) (level : ℕ) (s : PathNode) (states : List NodeState) (x : NodeState) (w : Who) (n : Env) : Type 0 where
   pub here : IsHere e level s states
   pub held : slice_get states s.node ≡ Some x
-  pub program : p ≡ (stop e level).program
   pub who : w ≡ (stop e level).who
   pub env : n ≡ (stop e level).env
 
@@ -92,21 +94,23 @@ module _ {e : PacketPath} {level : ℕ} {s : PathNode} {states : List NodeState}
   pub range-here : AreMarksInRange (told s.marks)
   range-here = subst AreMarksInRange (sym h.waypoint.marks) (range-on (ahead e level) refl)
 
-  pub step-here : (d : NodeState) {p : Program} {w : Who} {n : Env} → p ≡ s.checked.now → w ≡ v.who → n ≡ env_for e.packet.now e.moment (told s.marks) → IsStep e level s states (slice_index_or states s.node d) p w n
-  step-here d is-program is-who is-env = record {
+  pub step-here : (d : NodeState) {w : Who} {n : Env} → w ≡ v.who → n ≡ env_for e.packet.now e.moment (told s.marks) → IsStep e level s states (slice_index_or states s.node d) w n
+  step-here d is-who is-env = record {
     here = h;
     held = slice_get-get_or states s.node d h.within;
-    program = is-program ∙ h.waypoint.program;
     who = is-who;
     env = is-env ∙ ap (env_for e.packet.now e.moment) h.waypoint.marks;
   }
 
-  -- ---- the forms there are those of the program that the code runs
-  pub push-form : {p : Program} → p ≡ s.checked.now → IsForm p p.push s.push
-  push-form is = subst (λ (q : Program). IsForm q q.push s.push) (sym is) h.waypoint.push_form
+  -- ---- the transaction there is shaped and checked
+  node-here : IsNodeReady (root_of (part e level))
+  node-here = h.ready.accepted.nodes (place e level) _ (node-of_part (tree_for e) (place e level) (part e level) there)
 
-  pub pop-form : {p : Program} → p ≡ s.checked.now → IsForm p p.pop s.pop
-  pop-form is = subst (λ (q : Program). IsForm q q.pop s.pop) (sym is) h.waypoint.pop_form
+  pub shaped-here : IsShaped (program_at s)
+  shaped-here = subst IsShaped (sym h.waypoint.program) node-here.shaped
+
+  pub checked-here : IsChecked (program_at s)
+  checked-here = subst IsChecked (sym h.waypoint.program) node-here.checked
 
   -- ---- if the step changes no variable, all values stay
   unchanged-here : (f : State → State) → ((x : State) → SameState x (f x)) → ValuesBecome e states states (λ values. with_state values (place e level) (f (values (place e level))))
@@ -117,7 +121,7 @@ module _ {e : PacketPath} {level : ℕ} {s : PathNode} {states : List NodeState}
     is-told : rank_told v.program.push marks ≡ Some r
     is-told =
         ap (λ (p : Program). rank_told p.push marks) (sym h.waypoint.program)
-        ∙ ap (λ (m : Marks). rank_told s.checked.now.push m) (sym h.waypoint.marks)
+        ∙ ap (λ (m : Marks). rank_told (program_at s).push m) (sym h.waypoint.marks)
         ∙ sym h.waypoint.rank
         ∙ is
 
@@ -133,12 +137,15 @@ module _ {e : PacketPath} {level : ℕ} {s : PathNode} {states : List NodeState}
   -- and if the form of the pop step is empty
   pub stays-popped : (ranks : List ℕ) → s.pop ≡ Empty → ValuesBecome e states states (after_pops (v ∷ []) ranks)
   stays-popped ranks is =
-      let none : RunAs s.checked.now s.checked.now.pop [] = subst (IsForm s.checked.now s.checked.now.pop) is h.waypoint.pop_form in
+      let none : RunAs (program_at s) (program_at s).pop [] = subst (IsForm (program_at s) (program_at s).pop) is h.waypoint.pop_form in
       unchanged-here (after_pop v.program v.who v.env (slice_index ranks 0))
       (no_lines-after v.program v.who v.env (slice_index ranks 0) (subst (λ (q : Program). RunAs q q.pop []) h.waypoint.program none))
 
 -- ---- the step made there
-module _ {e : PacketPath} {level : ℕ} {s : PathNode} {states : List NodeState} {x : NodeState} {p : Program} {w : Who} {n : Env} (made : IsStep e level s states x p w n) where
+module _ {e : PacketPath} {level : ℕ} {s : PathNode} {states : List NodeState} {x : NodeState} {w : Who} {n : Env} (made : IsStep e level s states x w n) where
+  abbrev p : Program
+  p = program_at s
+
   keeps-here : Keeps (tree_for e) states (place e level) x
   keeps-here = ap (slice_get states) (sym made.here.waypoint.node) ∙ made.held
 
@@ -149,7 +156,7 @@ module _ {e : PacketPath} {level : ℕ} {s : PathNode} {states : List NodeState}
   values-here values are = are (place e level) x (part e level, there made.here) keeps-here
 
   pub in_range-here : IsStateInRange p (state_of x)
-  in_range-here = subst (λ (q : Program). IsStateInRange q (state_of x)) (sym made.program) station.in_range
+  in_range-here = subst (λ (q : Program). IsStateInRange q (state_of x)) (sym made.here.waypoint.program) station.in_range
 
   room-on : (digits : List ℕ) → ahead e level ≡ digits → HasRoomAtLeaf e states → HasRoom x (who_on (root_of (part e level)).group digits e.packet.now)
   room-on [] is room =
@@ -167,16 +174,19 @@ module _ {e : PacketPath} {level : ℕ} {s : PathNode} {states : List NodeState}
   rank-here is values are =
       let v : Visit = stop e level in
       is ∙ ap (λ m. m.rank) (push_step-same p w n (state_of x) (values (place e level)) (values-here values are))
-      ∙ ap (λ q. push_rank q w n (values (place e level))) made.program
+      ∙ ap (λ q. push_rank q w n (values (place e level))) made.here.waypoint.program
       ∙ ap (λ u. push_rank v.program u n (values (place e level))) made.who
       ∙ ap (λ m. push_rank v.program v.who m (values (place e level))) made.env
+
+  pub can-run : HasRoomAtLeaf e states → IsEnvInRange n → CanRunAt s.transaction.now w n x
+  can-run room told = record { shaped = shaped-here made.here; checked = checked-here made.here; in_range = in_range-here; room = room-here room; told = told }
 
   -- ---- the node has another state after it
   module _ (x' : NodeState) where
     pub stations-here : IsStateInRange p (state_of x') → children_of x' ≡ children_of x → ((who : Who) → HasRoom x' who ↔ HasRoom x who) → AreStations (tree_for e) (slice_set states s.node x')
     stations-here in_range children room = stations-set (tree_for e) states s.node x'
         (subst (λ (a : Address). IsStationOf (part_at (tree_for e) a) x') (sym (back made.here)) (record {
-          in_range = subst (λ (q : Program). IsStateInRange q (state_of x')) made.program in_range;
+          in_range = subst (λ (q : Program). IsStateInRange q (state_of x')) made.here.waypoint.program in_range;
           children = children ∙ station.children;
           room = λ i belongs. (room (Child i)).1 (station.room i belongs);
         })) made.here.kept
@@ -189,7 +199,7 @@ module _ {e : PacketPath} {level : ℕ} {s : PathNode} {states : List NodeState}
     set-here f same after values are =
         let v : Visit = stop e level in
         let old : State = values (place e level) in
-        let is : f p w n old ≡ f v.program v.who v.env old = ap (λ q. f q w n old) made.program ∙ ap (λ u. f v.program u n old) made.who ∙ ap (λ m. f v.program v.who m old) made.env in
+        let is : f p w n old ≡ f v.program v.who v.env old = ap (λ q. f q w n old) made.here.waypoint.program ∙ ap (λ u. f v.program u n old) made.who ∙ ap (λ m. f v.program v.who m old) made.env in
         let now : SameState (state_of x') (f v.program v.who v.env old) = subst (λ (y : State). SameState (state_of x') y) is (same-trans _ _ _ after (same (state_of x) old (values-here values are))) in
         subst (λ (a : Address). HaveValues (tree_for e) (slice_set states s.node x') (with_state values a (f v.program v.who v.env old))) (back made.here)
         (values-set (tree_for e) states s.node x' values (f v.program v.who v.env old) (omega (arith, made.here.within, made.here.kept.count)) now are)
@@ -202,14 +212,14 @@ module _ {e : PacketPath} {level : ℕ} {s : PathNode} {states : List NodeState}
 
   -- ---- what the node's push step leaves, and its pop step
   pub push-made : {r : ℕ} (x' : NodeState)
-      → record { rank : r ≡ push_rank p w n (state_of x); rank_limit : r ≤ max_rank; after : SameState (state_of x') (after_push p w n (state_of x)); in_range : IsStateInRange p (state_of x'); room : (who : Who) → HasRoom x' who ↔ HasRoom x who; children : children_of x' ≡ children_of x }
+      → record { rank : r ≡ push_rank p w n (state_of x); rank_limit : r ≤ max_rank; after : SameState (state_of x') (after_push p w n (state_of x)); keeps : KeepsNode s.transaction.now x x' }
       → record { rank : ForValues e states (λ values. r ≡ rank_at values (stop e level)); values : ValuesBecome e states (slice_set states s.node x') (after_pushes (stop e level ∷ [])); kept : AreStations (tree_for e) (slice_set states s.node x'); room : KeepsRoom e states (slice_set states s.node x'); limit : r ≤ max_rank }
-  push-made x' left = record { rank = rank-here left.rank; values = pushed-here x' left.after; kept = stations-here x' left.in_range left.children left.room; room = still-room x' left.room; limit = left.rank_limit }
+  push-made x' left = record { rank = rank-here left.rank; values = pushed-here x' left.after; kept = stations-here x' left.keeps.in_range left.keeps.children left.keeps.room; room = still-room x' left.keeps.room; limit = left.rank_limit }
 
   pub pop-made : (r : ℕ) (x' : NodeState)
-      → record { after : SameState (state_of x') (after_pop p w n r (state_of x)); in_range : IsStateInRange p (state_of x'); room : (who : Who) → HasRoom x' who ↔ HasRoom x who; children : children_of x' ≡ children_of x }
+      → record { after : SameState (state_of x') (after_pop p w n r (state_of x)); keeps : KeepsNode s.transaction.now x x' }
       → record { values : ValuesBecome e states (slice_set states s.node x') (after_pops (stop e level ∷ []) (r ∷ [])); kept : AreStations (tree_for e) (slice_set states s.node x'); room : KeepsRoom e states (slice_set states s.node x') }
-  pop-made r x' left = record { values = popped-here x' (r ∷ []) left.after; kept = stations-here x' left.in_range left.children left.room; room = still-room x' left.room }
+  pop-made r x' left = record { values = popped-here x' (r ∷ []) left.after; kept = stations-here x' left.keeps.in_range left.keeps.children left.keeps.room; room = still-room x' left.keeps.room }
 
 -- ---- the node at a level, and the step that the code makes there
 module _ {e : PacketPath} {digits : List ℕ} {level : ℕ} {states : List NodeState} (there : IsAtLevel e digits level states) (d : PathNode) where
@@ -219,9 +229,9 @@ module _ {e : PacketPath} {digits : List ℕ} {level : ℕ} {states : List NodeS
   pub node-at : IsHere e level s states
   node-at = here-at there.ready there.digits_are d there.low there.kept
 
-  module _ (x : NodeState) {p : Program} {n : Env} (program : p ≡ s.checked.now) (env : n ≡ env_for e.packet.now e.moment (told s.marks)) where
-    pub child-step : level < length digits → IsStep e level s states (slice_index_or states s.node x) p (Child (slice_index_or digits level 0)) n
-    child-step low = step-here node-at x program (child-at there.ready there.digits_are low) env
+  module _ (x : NodeState) {n : Env} (env : n ≡ env_for e.packet.now e.moment (told s.marks)) where
+    pub child-step : level < length digits → IsStep e level s states (slice_index_or states s.node x) (Child (slice_index_or digits level 0)) n
+    child-step low = step-here node-at x (child-at there.ready there.digits_are low) env
 
-    pub flow-step : {key : FlowKey} → length digits ≤ level → key ≡ grouped s.group e.packet.now.flow → IsStep e level s states (slice_index_or states s.node x) p (Flow key) n
-    flow-step high is = step-here node-at x program (flow-at there.ready there.digits_are node-at.waypoint high is) env
+    pub flow-step : {key : FlowKey} → length digits ≤ level → key ≡ grouped s.group e.packet.now.flow → IsStep e level s states (slice_index_or states s.node x) (Flow key) n
+    flow-step high is = step-here node-at x (flow-at there.ready there.digits_are node-at.waypoint high is) env

@@ -43,7 +43,7 @@ pub use Rattle.tree_defs.specs.Topology.{topology_of, Topology, topologies_of}
 pub use Rattle.tree_defs.specs.Tree.{Tree, Address, LeadsToLeaf, nodes, inner, leaf, subtree, IsAddressOf, Trees, more, none, depth, root_of, subtree_in, LeadsBelow, Popping, count_of, depth_below, trees_of}
 pub use Rattle.sched_core.specs.Agreement.{policy_of, AreStates}
 pub use Rattle.sched_core.specs.Arrivals.{leaf_number}
-pub use Rattle.sched_core.specs.Chunks.{packet_within, packet_of, numbers_below}
+pub use Rattle.sched_core.specs.Chunks.{packet_within, packet_from, packet_of, numbers_below}
 pub use Rattle.sched_core.specs.Held.{or_stray, held_at, numbers_in}
 pub use Rattle.sched_core.specs.Kept.{part_at, HaveValues, AreStations, HasRoomAt, IsStationOf, arity, Keeps}
 pub use Rattle.sched_core.specs.PolicyState.{policy_in, AreFilled, PopsNext}

@@ -41,6 +41,9 @@ filled-here place s e = split place s.place
     (λ same. ap (λ (t : Bool). t && s.filled) (eq-eqb s.place place (sym same)) ∙ e ∙ sym (eq-eqb place s.place same))
     (λ other. elsewhere place s (λ r. other (sym r)) ∙ sym (ne_eqb place s.place other))
 
+pub stands-there : (place : ℕ) (s : Slot) → s.place ≡ place → s.filled ≡ true → stands_at place s ≡ true
+stands-there place s e f = and_from (s.place == place) s.filled (eq-eqb s.place place e) f
+
 -- the first slot decides
 pub first-stands : (s : Slot) (xs : List Slot) (n : ℕ) → stands_at (n % 64) s ≡ true → packet_among (s ∷ xs) n ≡ Some (packet_in n s)
 first-stands s xs n h = ap (λ (t : Bool). if t then Some (packet_in n s) else packet_among xs n) h
@@ -116,6 +119,11 @@ among-push least xs s n o h e = split (n % 64) s.place
     (λ other. push-other xs s n (elsewhere (n % 64) s (λ r. other (sym r))) ∙ sym (if_other (n % 64) s.place (Some (packet_in n s)) (packet_among xs n) other))
 
 -- ---- the positions of packets
+pub any-default : (xs : List Slot) (k : ℕ) (d e : Slot) → k < length xs → get_or xs k d ≡ get_or xs k e
+any-default [] k d e h = absurd (omega arith)
+any-default (x ∷ xs) zero d e h = refl
+any-default (x ∷ xs) (suc k) d e h = any-default xs k d e (omega arith)
+
 pub at-least : (least : ℕ) (xs : List Slot) (k : ℕ) (d : Slot) → AreOrdered least xs → k < length xs → least + k ≤ (get_or xs k d).place
 at-least least [] k d o h = absurd (omega arith)
 at-least least (x ∷ xs) zero d o h = omega (arith, o.0)

@@ -4,7 +4,7 @@ use Rattle.policy_defs.specs.Policy.{Class as Aimed, Marks as Told}
 use Rattle.policy_core.specs.declared.parts.Class.{Class}
 use Rattle.policy_core.specs.declared.parts.Marks.{Marks}
 use Rattle.sched_core.specs.declared.path_node.ClassPath.{ClassPath}
-use Rattle.sched_core.specs.Waypoints.{IsClassPath}
+use Rattle.sched_core.specs.Waypoints.{IsClassPath, program_at}
 use Rattle.sched_core.proofs.TreeParts.{some-is, some-and, node-of_part}
 use Rattle.sched_core.proofs.FirstStates.{last-cases}
 use Rattle.sched_core.proofs.NodeSteps.{marks-of_class}
@@ -57,15 +57,15 @@ module _ {tree : Tree Node} {c : Aimed} {level : ℕ} {node : ℕ} (r : IsReache
   node-there = ap (node_at tree) back ∙ node-of_part tree (take level c.leaf) (part_at tree (take level c.leaf)) (there-at tree c.leaf r.leads level r.short)
 
   -- the entry for it
-  pub waypoint-made : {s : PathNode} {m : Marks} → s.node ≡ node → HasAt tree node (λ n. s.checked.now ≡ n.program) → HasAt tree node (λ n. s.group ≡ n.group) → s.marks ≡ m → s.told ≡ rank_told s.checked.now.push (told m)
-      → IsForm s.checked.now s.checked.now.push s.push → IsForm s.checked.now s.checked.now.pop s.pop
+  pub waypoint-made : {s : PathNode} {m : Marks} → s.node ≡ node → HasAt tree node (λ n. program_at s ≡ n.program) → HasAt tree node (λ n. s.group ≡ n.group) → s.marks ≡ m → s.told ≡ rank_told (program_at s).push (told m)
+      → IsForm (program_at s) (program_at s).push s.push → IsForm (program_at s) (program_at s).pop s.pop
       → told m ≡ marks_on (part_at tree (take level c.leaf)) (drop level c.leaf) c → IsWaypoint tree c level s
   waypoint-made {s} is-node program group marks rank push pop on = record {
     node = is-node ∙ r.number;
-    program = some-and _ _ (λ n. s.checked.now ≡ n.program) node-there program;
+    program = some-and _ _ (λ n. program_at s ≡ n.program) node-there program;
     group = some-and _ _ (λ n. s.group ≡ n.group) node-there group;
     marks = ap told marks ∙ on;
-    rank = rank ∙ ap (λ (k : Marks). rank_told s.checked.now.push (told k)) (sym marks);
+    rank = rank ∙ ap (λ (k : Marks). rank_told (program_at s).push (told k)) (sym marks);
     push_form = push;
     pop_form = pop;
   }

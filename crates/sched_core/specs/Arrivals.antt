@@ -1,11 +1,14 @@
 -- The result of an arrival.
-use Rattle.std.specs.Prelude.{◌≡◌, ℕ, if◌then◌else◌, Result, Ok, Err, IfOk}
+use Rattle.std.specs.Prelude.{◌≡◌, ◌<◌, ◌≤◌, ◌^◌, ℕ, if◌then◌else◌, Result, Ok, Err, IfOk}
 use Rattle.std.specs.declared.alloc.AllocError.{AllocError}
+use Rattle.tree_defs.specs.Tree.{depth}
 use Rattle.packet_defs.specs.declared.packet.Packet.{Packet}
 use Rattle.policy_defs.specs.Policy.{Policy}
 use Rattle.policy_defs.specs.Numbers.{number_at}
+use Rattle.policy_defs.specs.Accepted.{IsAccepted}
 use Rattle.sched_defs.specs.SourceState.{SourceState, class_of, is_full}
 use Rattle.tree_core.specs.Paths.{Way}
+use Rattle.sched_core.specs.Standing.{ForOne}
 use Rattle.sched_core.specs.declared.scheduler.Arrival.{Arrival}
 use Rattle.sched_core.specs.declared.scheduler.Arrival.TheVariants.{Pushed, Dropped}
 
@@ -44,3 +47,16 @@ pub record LeavesPath {U : Type 0} (policy : Policy) (p : Packet) (result : Resu
   pub under : IfOk result (WhereDropped (queues' ≡ queues))
   pub trace : WhereNotPushed (way' ≡ way) result
   pub room : way'.room ≡ way.room
+
+-- An event can be handled: the policy is accepted, a sound state with P is represented, the trace has
+-- room for the path to each leaf, and few such events were counted.
+pub record CanHandle {C U : Type 0} (represents : C → U → SourceState → Type 0) (policy_of : C → Policy) (c : C) (u : U) (P : Policy → SourceState → Type 0) (way : Way) (count : ℕ) : Type 0 where
+  pub accepted : IsAccepted (policy_of c)
+  pub stands : ForOne represents policy_of c u P
+  pub room : depth (policy_of c).tree ≤ way.room
+  pub few : count < 2 ^ 61
+
+-- these are the counts of the packets that were pushed and of the departures that were asked for
+pub record HasCounts {C : Type 0} (pushes_of departures_of : C → ℕ) (c : C) (pushed departed : ℕ) : Type 0 where
+  pub pushes : pushes_of c ≡ pushed
+  pub departures : departures_of c ≡ departed

@@ -13,6 +13,10 @@ abbrev pub packet_within : ℕ → List Chunk → ℕ → Option Packet
 packet_within first [] n = None
 packet_within first (chunk ∷ chunks) n = if n / 64 == first then packet_of chunk n else packet_within (first + 1) chunks n
 
+-- the same, where contracts keep it closed
+unfoldable pub packet_from : ℕ → List Chunk → ℕ → Option Packet
+packet_from first chunks n = packet_within first chunks n
+
 -- the numbers below an end that have a packet
 abbrev pub numbers_below : (ℕ → Option Packet) → ℕ → List ℕ
 numbers_below found zero = []

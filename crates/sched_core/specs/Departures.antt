@@ -1,5 +1,6 @@
 -- The result of a departure.
-use Rattle.std.specs.Prelude.{◌≡◌, Option, option_map}
+use Rattle.std.specs.Prelude.{◌≡◌, ◌↔◌, Option, option_map, IsNone, IfSome, IfNone}
+use Rattle.tree_defs.specs.SourceTree.{size}
 use Rattle.packet_defs.specs.declared.packet.Departed.{Departed}
 use Rattle.policy_defs.specs.Policy.{Policy}
 use Rattle.policy_defs.specs.Numbers.{number_at}
@@ -18,3 +19,15 @@ next_departed policy s = option_map (departed_packet policy) (leaver s)
 pub record IsTaken (l : Leaver) (way : Way) : Type 0 where
   pub digits : way.digits ≡ l.digits
   pub ranks : way.ranks ≡ l.ranks
+
+-- The result is that of the next departure: it is none only if no packet is queued. If one is, the trace
+-- has the digits and ranks with which it departed.
+pub record IsDeparture (policy : Policy) (s : SourceState) (result : Option Departed) (way : Way) : Type 0 where
+  pub value : result ≡ next_departed policy s
+  pub none : IsNone result ↔ (size s.tree ≡ 0)
+  pub taken : IfSome (leaver s) (λ l. IsTaken l way)
+
+-- the trace is unchanged if no packet departed, and its room is unchanged
+pub record KeepsTrace (result : Option Departed) (old new : Way) : Type 0 where
+  pub stays : IfNone result (new ≡ old)
+  pub room : new.room ≡ old.room

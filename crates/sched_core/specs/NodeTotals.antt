@@ -1,26 +1,17 @@
 -- How much is queued in a leaf or below a node.
-use Rattle.std.specs.Prelude.{◌≡◌, ◌<◌, ◌^◌, ℕ, ◌+◌, ◌-◌, Bool, ◌||◌, ◌&&◌, ◌==◌, if◌then◌else◌, Option, IsSome, unwrap_or}
+use Rattle.std.specs.Prelude.{◌≡◌, ◌<◌, ◌^◌, ℕ, ◌+◌, ◌-◌, Bool, ◌||◌, if◌then◌else◌, Option, IsSome, unwrap_or}
 use Rattle.std.specs.BTreeMap.{BTreeMap}
 use Rattle.std.specs.Map.{lookup}
 use Rattle.rank_defs.specs.declared.environment.FlowKey.{FlowKey}
 use Rattle.rank_defs.specs.declared.flow_group.FlowGroup.{FlowGroup}
 use Rattle.rank_defs.specs.FlowGroups.{grouped}
 use Rattle.rank_defs.specs.States.{same_flow}
+use Rattle.rank_core.specs.FlowKeys.{has_key}
+use Rattle.rank_core.specs.declared.flows.OrderedKey.{OrderedKey}
 use Rattle.packet_defs.specs.declared.packet.Packet.{Packet}
 use Rattle.policy_defs.specs.declared.limits.Limits.{Limits}
 use Rattle.sched_defs.specs.SourceState.{one_of, is_over}
 use Rattle.sched_core.specs.declared.node_totals.NodeTotals.{NodeTotals}
-use Rattle.sched_core.specs.declared.node_totals.OrderedKey.{OrderedKey}
-
--- the ordered key of a flow
-abbrev pub key_of : FlowKey → OrderedKey
-key_of f =
-    record { sport = f.sport; dport = f.dport; source = f.source; target = f.target; proto = f.proto; version = f.version }
-
--- whether a key belongs to the flow
-abbrev pub has_key : FlowKey → OrderedKey → Bool
-has_key f k =
-    f.version == k.version && f.source == k.source && f.target == k.target && f.proto == k.proto && f.sport == k.sport && f.dport == k.dport
 
 -- a flow's entry in a map of flows
 abbrev pub entry_of : BTreeMap OrderedKey ℕ → FlowKey → Option ℕ

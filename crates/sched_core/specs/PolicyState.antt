@@ -4,7 +4,10 @@ use Rattle.tree_defs.specs.Tree.{Address, LeadsToLeaf}
 use Rattle.tree_defs.specs.SourceTree.{SourceTree, pop, size}
 use Rattle.policy_defs.specs.Policy.{Policy}
 use Rattle.policy_defs.specs.Numbers.{number_at}
-use Rattle.sched_defs.specs.SourceState.{SourceState, total, one}
+use Rattle.packet_defs.specs.declared.packet.Packet.{Packet}
+use Rattle.sched_defs.specs.SourceState.{SourceState, total, one, class_of, arrival_ranks}
+use Rattle.tree_core.specs.Paths.{Way}
+use Rattle.sched_core.specs.Arrivals.{CanHandle, HasCounts}
 use Rattle.sched_core.specs.Agreement.{policy_of, AreStates}
 use Rattle.sched_core.specs.declared.policy_state.PolicyState.{PolicyState}
 use Rattle.sched_core.specs.Held.{held_at}
@@ -49,3 +52,21 @@ pub record PopsNext (s : SourceState) (number : ℕ) (digits ranks : List ℕ) :
 -- P holds of each sound state that it belongs to and from which this is popped next
 abbrev pub IsOfEachPopping : PolicyState → ℕ → List ℕ → List ℕ → (SourceState → Type 0) → Type 0
 IsOfEachPopping own number digits ranks P = IsOfEach own (λ s. PopsNext s number digits ranks → P s)
+
+-- a trace has the digits of a packet's leaf and the ranks of its push steps
+pub record HasPushed (own : PolicyState) (p : Packet) (way : Way) : Type 0 where
+  pub digits : way.digits ≡ (class_of (policy_in own) p).leaf
+  pub ranks : IsOfEach own (λ s. way.ranks ≡ arrival_ranks (policy_in own) p s)
+
+-- nothing was pushed: the state is that of the same source states, and the trace is unchanged
+pub record HasNotPushed (old new : PolicyState) (way way' : Way) : Type 0 where
+  pub state : IsOfEach old (λ s. IsOwn new s)
+  pub trace : way' ≡ way
+
+-- an event can be handled, if its packet or source state has P
+abbrev pub CanHandleOwn : PolicyState → (SourceState → Type 0) → Way → ℕ → Type 0
+CanHandleOwn own P way count = CanHandle owns policy_in own tt (λ _. P) way count
+
+-- these are the counts of pushes and departures
+abbrev pub CountsAre : PolicyState → ℕ → ℕ → Type 0
+CountsAre own pushed departed = HasCounts (λ c. c.pushes) (λ c. c.departures) own pushed departed

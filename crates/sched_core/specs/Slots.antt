@@ -1,5 +1,5 @@
 -- The packets in slots.
-use Rattle.std.specs.Prelude.{ℕ, ◌+◌, ◌<◌, ◌%◌, ◌^◌, ◌==◌, nat_le, Bool, true, ◌&&◌, if◌then◌else◌, Option, None, Some, List, [], ◌∷◌}
+use Rattle.std.specs.Prelude.{ℕ, ◌+◌, ◌<◌, ◌≤◌, ◌%◌, ◌^◌, ◌==◌, nat_le, Bool, true, ◌&&◌, if◌then◌else◌, Option, None, Some, List, [], ◌∷◌}
 use Rattle.packet_defs.specs.declared.packet.Packet.{Packet}
 use Rattle.sched_core.specs.declared.chunk.Slot.{Slot}
 
@@ -40,3 +40,7 @@ are_ordered least (slot ∷ slots) = nat_le least slot.place && are_ordered (slo
 abbrev pub place_behind : ℕ → List Slot → ℕ
 place_behind least [] = least
 place_behind least (slot ∷ slots) = place_behind (slot.place + 1) slots
+
+-- a packet can get a slot behind these: its addresses are short, and its position is after theirs
+abbrev pub FitsBehind : List Slot → Packet → Type 0
+FitsBehind slots p = IsBrief p × (place_behind 0 slots ≤ p.number % 64)

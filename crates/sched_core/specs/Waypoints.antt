@@ -8,7 +8,7 @@ use Rattle.rank_defs.specs.declared.transaction.Aim.TheVariants.{Rank}
 use Rattle.rank_defs.specs.Formulas.{Formula, variable}
 use Rattle.rank_defs.specs.declared.flow_group.FlowGroup.{FlowGroup}
 use Rattle.rank_defs.specs.contracts.flow_group.FlowGroup as group_row
-use Rattle.rank_defs.specs.Programs.{Assignment}
+use Rattle.rank_defs.specs.Programs.{Assignment, Program, program_of}
 use Rattle.rank_core.specs.Forms.{IsForm, IsForm-prop}
 use Rattle.range_core.specs.Codes.{program_code}
 use Rattle.policy_defs.specs.Policy.{Policy, Node, Class, Marks, limits_at, group_at}
@@ -40,6 +40,10 @@ rank_told [] m = Some 0
 rank_told (a ∷ []) m = mark_told a.aim a.formula m
 rank_told (a ∷ b ∷ rest) m = None
 
+-- the program of a node on the path
+abbrev pub program_at : PathNode → Program
+program_at s = program_of s.transaction.now
+
 -- how a group is stored as a ghost value
 abbrev pub group_code : Coded FlowGroup
 group_code = group_row.the_row.coded
@@ -47,12 +51,12 @@ group_code = group_row.the_row.coded
 -- the entry for the node at a level of a class's path; the root's level is 0
 pub record IsWaypoint (tree : Tree Node) (c : Class) (level : ℕ) (s : PathNode) : Type 0 where
   pub node : s.node ≡ number_at tree (take level c.leaf)
-  pub program : s.checked.now ≡ (root_of (part_at tree (take level c.leaf))).program
+  pub program : program_at s ≡ (root_of (part_at tree (take level c.leaf))).program
   pub group : s.group ≡ (root_of (part_at tree (take level c.leaf))).group
   pub marks : told s.marks ≡ marks_on (part_at tree (take level c.leaf)) (drop level c.leaf) c
-  pub rank : s.told ≡ rank_told s.checked.now.push (told s.marks)
-  pub push_form : IsForm s.checked.now s.checked.now.push s.push
-  pub pop_form : IsForm s.checked.now s.checked.now.pop s.pop
+  pub rank : s.told ≡ rank_told (program_at s).push (told s.marks)
+  pub push_form : IsForm (program_at s) (program_at s).push s.push
+  pub pop_form : IsForm (program_at s) (program_at s).pop s.pop
 
 -- one entry for each node on the path
 pub record AreWaypoints (tree : Tree Node) (c : Class) (waypoints : List PathNode) : Type 0 where
@@ -79,8 +83,8 @@ IsWaypoint-prop tree c level s a b i = record {
   group = Coded-set group_code _ _ a.group b.group i;
   marks = Coded-set marks_code _ _ a.marks b.marks i;
   rank = Coded-set (coded_option coded_ℕ) _ _ a.rank b.rank i;
-  push_form = IsForm-prop s.checked.now s.checked.now.push s.push a.push_form b.push_form i;
-  pop_form = IsForm-prop s.checked.now s.checked.now.pop s.pop a.pop_form b.pop_form i;
+  push_form = IsForm-prop (program_at s) (program_at s).push s.push a.push_form b.push_form i;
+  pop_form = IsForm-prop (program_at s) (program_at s).pop s.pop a.pop_form b.pop_form i;
 }
 
 AreWaypoints-prop : (tree : Tree Node) (c : Class) (waypoints : List PathNode) → IsProp (AreWaypoints tree c waypoints)

@@ -1,12 +1,12 @@
 -- The packets in a window of chunks.
 use Rattle.std.specs.Prelude.{ℕ, Option, List}
 use Rattle.packet_defs.specs.declared.packet.Packet.{Packet}
-use Rattle.sched_core.specs.declared.window.Window.{Window}
-use Rattle.sched_core.specs.Chunks.{packet_within, numbers_below}
+use Rattle.sched_core.specs.declared.held.Window.{Window}
+use Rattle.sched_core.specs.Chunks.{packet_within, packet_from, numbers_below}
 
 -- the packet under a number, if there is one
-unfoldable pub packet_at : Window → ℕ → Option Packet
-packet_at w n = packet_within w.first w.chunks.items n
+abbrev pub packet_at : Window → ℕ → Option Packet
+packet_at w n = packet_from w.first w.chunks.items n
 
 -- the numbers of the packets in the window
 unfoldable pub numbers_of : Window → List ℕ

@@ -1,8 +1,7 @@
 //! Slots for packets whose numbers are near each other.
-ghost use Rattle.std.specs.Prelude.{◌≡◌, ◌↔◌, ◌%◌, ◌≤◌, ◌<◌, ◌&&◌, ◌==◌, ℕ, None, Some, if◌then◌else◌, true, IsSome, IfSome, IfNone, IfOk, OnOk, OnErr};
-ghost use Rattle.std.specs.List.{HoldsAt};
+ghost use Rattle.std.specs.Prelude.{◌≡◌, ◌==◌, ◌&&◌, ◌↔◌, ◌%◌, ◌<◌, ◌/◌, ℕ, None, Some, if◌then◌else◌, true, IsTrue, IfOk, OnOk, OnErr};
 ghost use Rattle.std.specs.Vec.{vec_len, vec_capacity};
-ghost use Rattle.sched_core.specs.Slots.{packet_in, IsBrief, stands_at, filled_among, are_ordered, place_behind};
+ghost use Rattle.sched_core.specs.Slots.{packet_in, filled_among, are_ordered, FitsBehind};
 
 use packet_defs::{BLANK, Packet};
 use std::alloc::{AllocError, Global};
@@ -15,8 +14,8 @@ pub(crate) const WIDTH: u64 = 64;
 /// number. The small fields come first, so that a slot takes 32 bytes.
 #[derive(Clone, Copy)]
 pub struct Slot {
-    pub(crate) filled: bool,
-    pub(crate) place: u8,
+    filled: bool,
+    place: u8,
     version: u8,
     proto: u8,
     dport: u16,
@@ -31,37 +30,9 @@ pub struct Slot {
 const _: () = prove!(size_of::<Slot>() == 32);
 
 impl Slot {
-    /// Returns a slot with a packet whose addresses have at most 32 bits.
-    #[inline(always)]
-    pub(crate) fn of(packet: &Packet) -> Option<Slot>
-        ensures packet { IfSome result (λ slot. packet_in packet.now.number slot ≡ packet.now) }
-        ensures place { IfSome result (λ slot. slot.place ≡ packet.now.number % 64) }
-        ensures filled { IfSome result (λ slot. slot.filled ≡ true) }
-        ensures brief { IsSome result ↔ IsBrief packet.now }
-    {
-        let flow = packet.flow;
-        let (Ok(source), Ok(target)) = (u32::try_from(flow.source), u32::try_from(flow.target))
-        else {
-            return None;
-        };
-        Some(Slot {
-            filled: true,
-            place: (packet.number % WIDTH) as u8,
-            version: flow.version,
-            proto: flow.proto,
-            sport: flow.sport,
-            dport: flow.dport,
-            source,
-            target,
-            class: packet.class,
-            len: packet.len,
-            moment: packet.moment,
-        })
-    }
-
     /// Writes the packet of a slot, with this number, through `packet`.
     #[inline(always)]
-    pub(crate) fn put_packet(&self, number: u64, packet: &mut Packet)
+    fn put_packet(&self, number: u64, packet: &mut Packet)
         ensures { packet.new ≡ packet_in number self.now }
     {
         packet.number = number;
@@ -112,56 +83,60 @@ impl Chunk {
         self.slots.reserve(1)
     }
 
-    /// Adds a slot if its position is after those of all others, and returns whether it was added.
+    /// Adds a packet if its addresses have at most 32 bits and its position is after those of all
+    /// others, and returns whether it was added.
     #[inline(always)]
-    pub(crate) fn push(&mut self, slot: Slot) -> Result<bool, AllocError>
-        requires filled { slot.filled ≡ true }
-        ensures ok { IfOk result (λ stands. (n : ℕ) → packet_of self.new n
-            ≡ (if stands && (n % 64 == slot.place) then Some (packet_in n slot) else packet_of self.old n)) }
+    pub(crate) fn push(&mut self, packet: &Packet) -> Result<bool, AllocError>
+        ensures ok { IfOk result (λ added. (n : ℕ) → n / 64 ≡ packet.now.number / 64 →
+            packet_of self.new n ≡ (if added && (n == packet.now.number) then Some packet.now else packet_of self.old n)) }
+        ensures added { IfOk result (λ added. IsTrue added ↔
+            FitsBehind self.old.slots.items packet.now) }
         ensures err { OnErr result ((n : ℕ) → packet_of self.new n ≡ packet_of self.old n) }
     {
+        let flow = packet.flow;
+        let (Ok(source), Ok(target)) = (u32::try_from(flow.source), u32::try_from(flow.target))
+        else {
+            return Ok(false);
+        };
+        let place = (packet.number % WIDTH) as u8;
         if let Some(last) = self.slots.last() {
-            if slot.place <= last.place {
+            if place <= last.place {
                 return Ok(false);
             }
         }
         if self.slots.len() == self.slots.capacity() {
             self.grow()?;
         }
-        self.slots.push_reserved(slot);
+        self.slots.push_reserved(Slot {
+            filled: true,
+            place,
+            version: flow.version,
+            proto: flow.proto,
+            sport: flow.sport,
+            dport: flow.dport,
+            source,
+            target,
+            class: packet.class,
+            len: packet.len,
+            moment: packet.moment,
+        });
         self.filled += 1;
         Ok(true)
-    }
-
-    /// Returns the index of a number's slot, if a packet is in it. The index is at most the
-    /// number's position.
-    #[inline(always)]
-    fn find(&self, number: u64) -> Option<usize>
-        ensures within { IfSome result (λ i. i < vec_len self.now.slots) }
-        ensures found { IfSome result (λ i. HoldsAt (λ slot. stands_at (number % 64) slot ≡ true)
-            self.now.slots.items i) }
-        ensures none { IfNone result (packet_of self.now number ≡ None) }
-    {
-        let place = (number % WIDTH) as u8;
-        let mut i = self.slots.len().min(place as usize + 1);
-        while i > 0 {
-            i -= 1;
-            let slot = &self.slots[i];
-            if slot.place == place && slot.filled {
-                return Some(i);
-            }
-        }
-        None
     }
 
     /// Returns the packet with a number.
     pub(crate) fn packet(&self, number: u64) -> Option<Packet>
         ensures { result ≡ packet_of self.now number }
     {
-        let i = self.find(number)?;
-        let mut packet = BLANK;
-        self.slots[i].put_packet(number, &mut packet);
-        Some(packet)
+        let place = (number % WIDTH) as u8;
+        for slot in &self.slots {
+            if slot.place == place && slot.filled {
+                let mut packet = BLANK;
+                slot.put_packet(number, &mut packet);
+                return Some(packet);
+            }
+        }
+        None
     }
 
     /// Returns the position of the first packet, or 0 if there is none.
@@ -175,20 +150,26 @@ impl Chunk {
     }
 
     /// Empties the slot of a number, if it is filled, and returns whether it was. The packet is
-    /// written through `packet`.
+    /// written through `packet`. A slot's index is at most its position.
     #[inline(always)]
     pub(crate) fn take(&mut self, number: u64, packet: &mut Packet) -> bool
         ensures value { packet_of self.old number ≡ (if result then Some packet.new else None) }
         ensures rest { (n : ℕ) → packet_of self.new n ≡ (if n % 64 == number % 64 then None else
             packet_of self.old n) }
     {
-        let Some(i) = self.find(number) else {
-            return false;
-        };
-        self.slots[i].put_packet(number, packet);
-        self.slots[i].filled = false;
-        self.filled -= 1;
-        true
+        let place = (number % WIDTH) as u8;
+        let mut i = self.slots.len().min(place as usize + 1);
+        while i > 0 {
+            i -= 1;
+            let slot = &self.slots[i];
+            if slot.place == place && slot.filled {
+                slot.put_packet(number, packet);
+                self.slots[i].filled = false;
+                self.filled -= 1;
+                return true;
+            }
+        }
+        false
     }
 
     /// Frees the empty slots if they are more than a quarter of all slots.

@@ -13,7 +13,6 @@ mod path_node;
 mod policy_state;
 mod scheduler;
 mod totals;
-mod window;
 
 pub use direct::Direct;
 pub use node_states::NodeStates;

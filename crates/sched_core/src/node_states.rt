@@ -188,34 +188,6 @@ impl PacketPath<'_> {
     }
 }
 
-/// Runs the push step at a level of the path by its form. Returns the packet's rank there. Nodes that
-/// tell flows apart otherwise are rare, so their steps stay out of the way of the others.
-#[inline(always)]
-fn push_step(states: &mut [NodeState], passage: &PacketPath, digits: &[u32], level: usize) -> u64
-    requires there { IsAtLevel passage.now digits.now level states.old }
-    ensures rank { ForValues passage.now states.old (λ v. result ≡
-        rank_at v (stop passage.now level)) }
-    ensures values { ValuesBecome passage.now states.old states.new
-        (after_pushes (stop passage.now level ∷ [])) }
-    ensures kept { AreStations (tree_for passage.now) states.new }
-    ensures room { KeepsRoom passage.now states.old states.new }
-    ensures limit { result ≤ max_rank }
-{
-    let waypoint = &passage.waypoints[level];
-    let FlowGroup::FiveTuple = waypoint.group else {
-        return push_lines(states, passage, digits, level);
-    };
-    let transaction = waypoint.checked.transaction();
-    let state = &mut states[waypoint.node as usize];
-    let env = passage.env(&waypoint.marks);
-    if level < digits.len() {
-        let child = Who::Child(digits[level]);
-        return push_by_form(&waypoint.push, transaction, state, &child, &env);
-    }
-    let flow = Who::Flow(passage.packet.flow);
-    push_by_form(&waypoint.push, transaction, state, &flow, &env)
-}
-
 /// Runs any push step at a level of the path. Returns the packet's rank there. A call of its own
 /// keeps the usual steps short.
 #[inline(never)]
@@ -230,7 +202,7 @@ fn push_lines(states: &mut [NodeState], passage: &PacketPath, digits: &[u32], le
     ensures limit { result ≤ max_rank }
 {
     let waypoint = &passage.waypoints[level];
-    let transaction = waypoint.checked.transaction();
+    let transaction = waypoint.transaction;
     let state = &mut states[waypoint.node as usize];
     let env = passage.env(&waypoint.marks);
     if level < digits.len() {
@@ -243,7 +215,8 @@ fn push_lines(states: &mut [NodeState], passage: &PacketPath, digits: &[u32], le
 }
 
 /// Runs the push step at a level of the path. Returns the packet's rank there. If the marks alone
-/// determine the rank, as in most nodes, nothing is looked up for it.
+/// determine the rank, as in most nodes, nothing is looked up for it. Nodes that tell flows apart
+/// otherwise are rare, so their steps stay out of the way of the others.
 #[inline(always)]
 fn push_at(states: &mut [NodeState], passage: &PacketPath, digits: &[u32], level: usize) -> u64
     requires there { IsAtLevel passage.now digits.now level states.old }
@@ -256,38 +229,21 @@ fn push_at(states: &mut [NodeState], passage: &PacketPath, digits: &[u32], level
     ensures limit { result ≤ max_rank }
 {
     let waypoint = &passage.waypoints[level];
-    match waypoint.told {
-        Some(rank) => rank,
-        None => match waypoint.push {
-            Form::Fair(_) => push_step(states, passage, digits, level),
-            _ => push_lines(states, passage, digits, level),
-        },
+    if let Some(rank) = waypoint.told {
+        return rank;
     }
-}
-
-/// Runs the pop step at a level of the path by its form, for a packet taken with a rank.
-#[inline(always)]
-fn pop_step(states: &mut [NodeState], passage: &PacketPath, digits: &[u32], level: usize, rank: u64)
-    requires there { IsAtLevel passage.now digits.now level states.old }
-    requires limit { rank ≤ max_rank }
-    ensures values { ValuesBecome passage.now states.old states.new
-        (after_pops (stop passage.now level ∷ []) (rank ∷ [])) }
-    ensures kept { AreStations (tree_for passage.now) states.new }
-    ensures room { KeepsRoom passage.now states.old states.new }
-{
-    let waypoint = &passage.waypoints[level];
-    let FlowGroup::FiveTuple = waypoint.group else {
-        return pop_lines(states, passage, digits, level, rank);
+    let (Form::Fair(_), FlowGroup::FiveTuple) = (&waypoint.push, waypoint.group) else {
+        return push_lines(states, passage, digits, level);
     };
-    let transaction = waypoint.checked.transaction();
+    let transaction = waypoint.transaction;
     let state = &mut states[waypoint.node as usize];
     let env = passage.env(&waypoint.marks);
     if level < digits.len() {
         let child = Who::Child(digits[level]);
-        return pop_by_form(&waypoint.pop, transaction, state, &child, rank, &env);
+        return push_by_form(&waypoint.push, transaction, state, &child, &env);
     }
     let flow = Who::Flow(passage.packet.flow);
-    pop_by_form(&waypoint.pop, transaction, state, &flow, rank, &env);
+    push_by_form(&waypoint.push, transaction, state, &flow, &env)
 }
 
 /// Runs any pop step at a level of the path, for a packet taken with a rank. A call of its own keeps
@@ -308,7 +264,7 @@ fn pop_lines(
     ensures room { KeepsRoom passage.now states.old states.new }
 {
     let waypoint = &passage.waypoints[level];
-    let transaction = waypoint.checked.transaction();
+    let transaction = waypoint.transaction;
     let state = &mut states[waypoint.node as usize];
     let env = passage.env(&waypoint.marks);
     if level < digits.len() {
@@ -333,9 +289,19 @@ fn pop_at(states: &mut [NodeState], passage: &PacketPath, digits: &[u32], level:
     ensures room { KeepsRoom passage.now states.old states.new }
 {
     let waypoint = &passage.waypoints[level];
-    match waypoint.pop {
-        Form::Empty => (),
-        Form::Kept(_) => pop_step(states, passage, digits, level, rank),
-        _ => pop_lines(states, passage, digits, level, rank),
+    if let Form::Empty = waypoint.pop {
+        return;
     }
+    let (Form::Kept(_), FlowGroup::FiveTuple) = (&waypoint.pop, waypoint.group) else {
+        return pop_lines(states, passage, digits, level, rank);
+    };
+    let transaction = waypoint.transaction;
+    let state = &mut states[waypoint.node as usize];
+    let env = passage.env(&waypoint.marks);
+    if level < digits.len() {
+        let child = Who::Child(digits[level]);
+        return pop_by_form(&waypoint.pop, transaction, state, &child, rank, &env);
+    }
+    let flow = Who::Flow(passage.packet.flow);
+    pop_by_form(&waypoint.pop, transaction, state, &flow, rank, &env);
 }

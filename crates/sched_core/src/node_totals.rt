@@ -4,37 +4,14 @@ ghost use Rattle.packet_defs.specs.declared.packet.Packet.{Packet as Known};
 ghost use Rattle.rank_defs.specs.declared.environment.FlowKey.{FlowKey as Flow};
 ghost use Rattle.rank_defs.specs.FlowGroups.{grouped};
 ghost use Rattle.sched_defs.specs.SourceState.{is_over};
-ghost use Rattle.sched_core.specs.NodeTotals.{key_of, entry_of, count_in, is_in_flow, Amounts, nothing, raised, lowered, passes};
+ghost use Rattle.sched_core.specs.NodeTotals.{entry_of, count_in, is_in_flow, Amounts, nothing, raised, lowered, passes};
 
 use packet_defs::Packet;
 use policy_defs::Limits;
+use rank_core::{OrderedKey, key_of};
 use rank_defs::{FlowGroup, FlowKey};
 use std::alloc::{AllocError, Global};
 use std::collections::BTreeMap;
-
-/// A flow as an ordered key. The fields that differ most often between flows come first.
-#[derive(PartialEq, Eq, PartialOrd, Ord, Drop)]
-struct OrderedKey {
-    sport: u16,
-    dport: u16,
-    source: u128,
-    target: u128,
-    proto: u8,
-    version: u8,
-}
-
-fn key_of(flow: &FlowKey) -> OrderedKey
-    ensures { result ≡ key_of flow.now }
-{
-    OrderedKey {
-        sport: flow.sport,
-        dport: flow.dport,
-        source: flow.source,
-        target: flow.target,
-        proto: flow.proto,
-        version: flow.version,
-    }
-}
 
 /// How many packets and bytes are queued in a leaf or below a node, and how many packets of each
 /// flow. Flows are counted only if the node has a limit for them. Captures choose the flows, so the

@@ -5,10 +5,9 @@ ghost use Rattle.rank_defs.specs.Programs.{program_of};
 ghost use Rattle.rank_core.specs.Forms.{IsForm};
 ghost use Rattle.policy_core.specs.Numbering.{address_at, HasAt};
 ghost use Rattle.policy_core.specs.Parts.{class_in, told};
-ghost use Rattle.sched_core.specs.Waypoints.{rank_told, AreWaypoints, IsClassPath, AreWays};
+ghost use Rattle.sched_core.specs.Waypoints.{rank_told, program_at, AreWaypoints, IsClassPath, AreWays};
 
 use policy_core::{Class, Marks, Policy};
-use range_core::Checked;
 use rank_core::{Aim, Expr, Form, Transaction, Var, pop_form, push_form};
 use rank_defs::FlowGroup;
 use std::alloc::{AllocError, Global};
@@ -19,7 +18,7 @@ use std::alloc::{AllocError, Global};
 #[derive(Drop)]
 pub struct PathNode<'a> {
     pub node: u32,
-    pub checked: &'a Checked,
+    pub transaction: &'a Transaction,
     pub group: FlowGroup,
     pub marks: Marks,
     pub told: Option<u64>,
@@ -59,18 +58,17 @@ fn rank_told(transaction: &Transaction, marks: &Marks) -> Option<u64>
 fn waypoint_at<'a>(policy: &'a Policy, node: u32, marks: Marks) -> PathNode<'a>
     requires there { node < nodes policy.now.policy.tree }
     ensures node { result.node ≡ node }
-    ensures program { HasAt policy.now.policy.tree node (λ n. result.checked.now ≡ n.program) }
+    ensures program { HasAt policy.now.policy.tree node (λ n. program_at result ≡ n.program) }
     ensures group { HasAt policy.now.policy.tree node (λ n. result.group ≡ n.group) }
     ensures marks { result.marks ≡ marks }
-    ensures told { result.told ≡ rank_told result.checked.now.push (told marks) }
-    ensures push { IsForm result.checked.now result.checked.now.push result.push }
-    ensures pop { IsForm result.checked.now result.checked.now.pop result.pop }
+    ensures told { result.told ≡ rank_told (program_at result).push (told marks) }
+    ensures push { IsForm (program_at result) (program_at result).push result.push }
+    ensures pop { IsForm (program_at result) (program_at result).pop result.pop }
 {
-    let checked = policy.checked(node);
-    let transaction = checked.transaction();
+    let transaction = policy.checked(node).transaction();
     PathNode {
         node,
-        checked,
+        transaction,
         group: policy.group(node),
         marks,
         told: rank_told(transaction, &marks),

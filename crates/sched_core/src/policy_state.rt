@@ -41,7 +41,7 @@ pub struct PolicyState<'a> {
 }
 
 impl<'a> PolicyState<'a> {
-    ghost use Rattle.sched_core.specs.PolicyState.{policy_in, IsOwn, IsOfOne, IsOfEach, IsOfEachPopping, PopsNext};
+    ghost use Rattle.sched_core.specs.PolicyState.{policy_in, IsOwn, IsOfOne, IsOfEach, IsOfEachPopping, PopsNext, CanHandleOwn, HasPushed, HasNotPushed, CountsAre};
 
     /// Returns the state before the first packet. The error means out of memory.
     pub fn new(alloc: Global, policy: &'a Policy) -> Result<PolicyState<'a>, AllocError>
@@ -109,34 +109,31 @@ impl<'a> PolicyState<'a> {
     /// ranks. Returns the number of its leaf. The error means out of memory.
     #[inline(always)]
     pub fn admit(&mut self, packet: &Packet, trace: &mut Taken) -> Result<u32, AllocError>
-        requires accepted { IsAccepted (policy_in self.old) }
-        requires stands { IsOfOne self.old (λ s. CanArrive (policy_in self.old) s packet.now) }
-        requires room { depth (policy_in self.old).tree ≤ trace.old.room }
-        requires few { self.old.pushes < 2 ^ 61 }
+        requires can { CanHandleOwn self.old (λ s. CanArrive (policy_in self.old) s packet.now)
+            trace.old self.old.pushes }
 
         ensures ok { OnOk result (IsOfEach self.old (λ s. IsOwn self.new
             (pushed (policy_in self.old) packet.now s))) }
         ensures leaf { IfOk result (λ leaf. leaf ≡ leaf_number (policy_in self.old) packet.now) }
-        ensures digits { OnOk result (trace.new.digits ≡ (class_of (policy_in self.old)
-            packet.now).leaf) }
-        ensures ranks { OnOk result (IsOfEach self.old (λ s. trace.new.ranks ≡
-            arrival_ranks (policy_in self.old) packet.now s)) }
-        ensures err { OnErr result (IsOfEach self.old (λ s. IsOwn self.new s)) }
-        ensures trace { OnErr result (trace.new ≡ trace.old) }
+        ensures way { OnOk result (HasPushed self.old packet.now trace.new) }
+        ensures err { OnErr result (HasNotPushed self.old self.new trace.old trace.new) }
         ensures room { trace.new.room ≡ trace.old.room }
-        ensures pushes { self.new.pushes ≡ (if is_ok result then self.old.pushes +
-            1 else self.old.pushes) }
-        ensures departures { self.new.departures ≡ self.old.departures }
+        ensures counts { CountsAre self.new (if is_ok result then self.old.pushes +
+            1 else self.old.pushes) self.old.departures }
         ensures policy { policy_in self.new ≡ policy_in self.old }
     {
         let leaf = self.stations.path(packet).leaf;
         self.stations.reserve(packet)?;
-        reserve_totals(&mut self.totals, &self.stations, packet)?;
+        if self.totals.is_some() {
+            reserve_totals(&mut self.totals, &self.stations, packet)?;
+        }
         self.held.put(packet)?;
         let moment = self.moment.max(packet.moment);
         self.stations.push_steps(packet, moment, trace);
         self.moment = moment;
-        add_to_totals(&mut self.totals, &self.stations, packet);
+        if self.totals.is_some() {
+            add_to_totals(&mut self.totals, &self.stations, packet);
+        }
         self.filled[leaf as usize] += 1;
         self.pushes += 1;
         Ok(leaf)
@@ -165,7 +162,9 @@ impl<'a> PolicyState<'a> {
         let leaf = self.stations.path(&self.leaver).leaf;
         self.stations
             .pop_steps(&self.leaver, digits, ranks, self.moment);
-        take_from_totals(&mut self.totals, &self.stations, &self.leaver);
+        if self.totals.is_some() {
+            take_from_totals(&mut self.totals, &self.stations, &self.leaver);
+        }
         self.filled[leaf as usize] -= 1;
         Departed {
             packet: number,

@@ -1,16 +1,14 @@
 //! The trait of schedulers that drive queues by a policy.
-ghost use Rattle.std.specs.Prelude.{◌≡◌, ◌<◌, ◌≤◌, ◌+◌, ◌^◌, ◌↔◌, ℕ, false, Option, IsNone, MatchResult, IfOk, IfSome, IfNone};
-ghost use Rattle.tree_defs.specs.Tree.{depth};
+ghost use Rattle.std.specs.Prelude.{◌≡◌, ◌+◌, ℕ, false, Option, MatchResult, IfOk};
 ghost use Rattle.tree_defs.specs.SourceTree.{size};
 ghost use Rattle.policy_defs.specs.Policy.{Policy};
-ghost use Rattle.policy_defs.specs.Accepted.{IsAccepted};
-ghost use Rattle.sched_defs.specs.SourceState.{SourceState, arrival_ranks, is_full, arrived, departed, leaver};
+ghost use Rattle.sched_defs.specs.SourceState.{SourceState, arrival_ranks, is_full, arrived, departed};
 ghost use Rattle.sched_defs.specs.Events.{CanArrive};
-ghost use Rattle.sched_core.specs.Standing.{ForOne, ForEach};
+ghost use Rattle.sched_core.specs.Standing.{ForEach};
 ghost use Rattle.sched_core.specs.Origins.{Origin, KeepsPolicy};
 ghost use Rattle.sched_core.specs.Spills.{raised, spills_at};
-ghost use Rattle.sched_core.specs.Arrivals.{arrival_of, pushes_of, WherePushed, LeavesPath};
-ghost use Rattle.sched_core.specs.Departures.{IsTaken, next_departed};
+ghost use Rattle.sched_core.specs.Arrivals.{arrival_of, pushes_of, WherePushed, LeavesPath, CanHandle, HasCounts};
+ghost use Rattle.sched_core.specs.Departures.{IsDeparture, KeepsTrace};
 
 use packet_defs::{Departed, Packet};
 use std::alloc::AllocError;
@@ -57,11 +55,8 @@ pub trait Scheduler {
         packet: &Packet,
         trace: &mut Taken,
     ) -> Result<Arrival, AllocError>
-        requires accepted { IsAccepted (policy self.old) }
-        requires stands { ForOne stands policy self.old under.old (λ p s.
-            CanArrive p s packet.now) }
-        requires room { depth (policy self.old).tree ≤ trace.old.room }
-        requires few { pushes self.old < 2 ^ 61 }
+        requires can { CanHandle stands policy self.old under.old (λ p s. CanArrive p s packet.now)
+            trace.old (pushes self.old) }
 
         ensures state { MatchResult result (λ _. ForEach stands policy self.old under.old (λ p s.
             stands self.new under.new (arrived p packet.now s)))
@@ -76,31 +71,24 @@ pub trait Scheduler {
         ensures spilled { MatchResult result (λ _. ForEach stands policy self.old under.old (λ p s.
             spilled self.new under.new ≡ raised (spilled self.old under.old) (spills_at (origin self.old) p packet.now s)))
             (λ _. spilled self.new under.new ≡ spilled self.old under.old) }
-        ensures pushes { pushes self.new ≡ pushes self.old + pushes_of result }
-        ensures departures { departures self.new ≡ departures self.old }
+        ensures counts { HasCounts pushes departures self.new (pushes self.old + pushes_of result)
+            (departures self.old) }
         ensures kept { KeepsPolicy policy origin self.old self.new };
 
     /// Dequeues the next packet, if one is queued. The packet is popped, and the pop steps run on
     /// its path with the ranks taken. `trace` gets the digits and these ranks. Takes no memory.
     fn depart(&mut self, under: &mut Self::Under, trace: &mut Taken) -> Option<Departed>
-        requires accepted { IsAccepted (policy self.old) }
-        requires stands { ForOne stands policy self.old under.old (λ _ _. Unit {0}) }
-        requires room { depth (policy self.old).tree ≤ trace.old.room }
-        requires few { departures self.old < 2 ^ 61 }
+        requires can { CanHandle stands policy self.old under.old (λ _ _. Unit {0}) trace.old
+            (departures self.old) }
 
         ensures state { ForEach stands policy self.old under.old (λ p s.
             stands self.new under.new (departed p s)) }
-        ensures value { ForEach stands policy self.old under.old (λ p s. result ≡
-            next_departed p s) }
-        ensures none { ForEach stands policy self.old under.old (λ _ s. IsNone result ↔
-            (size s.tree ≡ 0)) }
-        ensures taken { ForEach stands policy self.old under.old (λ _ s.
-            IfSome (leaver s) (λ l. IsTaken l trace.new)) }
-        ensures trace { IfNone result (trace.new ≡ trace.old) }
-        ensures room { trace.new.room ≡ trace.old.room }
+        ensures departs { ForEach stands policy self.old under.old (λ p s.
+            IsDeparture p s result trace.new) }
+        ensures trace { KeepsTrace result trace.old trace.new }
         ensures spilled { spilled self.new under.new ≡ spilled self.old under.old }
-        ensures pushes { pushes self.new ≡ pushes self.old }
-        ensures departures { departures self.new ≡ departures self.old + 1 }
+        ensures counts { HasCounts pushes departures self.new (pushes self.old)
+            (departures self.old + 1) }
         ensures kept { KeepsPolicy policy origin self.old self.new };
 
     /// Returns how many packets are queued.

@@ -128,8 +128,9 @@ pub fn passes_limits(totals: &[NodeTotals], stations: &NodeStates, packet: &Pack
     passes_along(totals, stations.path(packet).nodes.as_slice(), packet)
 }
 
-/// Makes room for a packet at each node on its path. The error means out of memory.
-#[inline(always)]
+/// Makes room for a packet at each node on its path. The error means out of memory. Policies whose
+/// limits need totals are rare, so this and the next two stay out of the way of the others.
+#[inline(never)]
 pub fn reserve_totals(
     totals: &mut Option<Vec<NodeTotals>>,
     stations: &NodeStates,
@@ -153,7 +154,7 @@ pub fn reserve_totals(
 }
 
 /// Adds a packet at each node on its path, where there is room for it. Takes no memory.
-#[inline(always)]
+#[inline(never)]
 pub fn add_to_totals(totals: &mut Option<Vec<NodeTotals>>, stations: &NodeStates, packet: &Packet)
     requires known { IsKnown (policy_of stations.now) packet.now }
     requires accepted { IsAccepted (policy_of stations.now) }
@@ -174,7 +175,7 @@ pub fn add_to_totals(totals: &mut Option<Vec<NodeTotals>>, stations: &NodeStates
 }
 
 /// Takes a packet out at each node on its path. Takes no memory.
-#[inline(always)]
+#[inline(never)]
 pub fn take_from_totals(
     totals: &mut Option<Vec<NodeTotals>>,
     stations: &NodeStates,

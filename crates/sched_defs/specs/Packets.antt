@@ -1,10 +1,14 @@
 -- Packets that arrive one by one.
-use Rattle.std.specs.Prelude.{◌≡◌, ℕ, ◌+◌, ◌==◌, if◌then◌else◌, Option, None, Some, List, [], ◌∷◌, ◌++◌, IfSome, ⊤}
+use Rattle.std.specs.Prelude.{◌≡◌, ◌≤◌, ℕ, ◌+◌, ◌==◌, Bool, if◌then◌else◌, Option, None, Some, List, [], ◌∷◌, ◌++◌, length, IfSome, Result, IfOk, OnOk, IsErrOf, ⊤}
 use Rattle.pcap_defs.specs.Packet.{CapturedPacket}
+use Rattle.pcap_defs.specs.Record.{most_captured}
 use Rattle.packet_defs.specs.declared.packet.Packet.{Packet}
+use Rattle.policy_defs.specs.Policy.{Policy}
+use Rattle.outside_core.specs.Faults.{Rose}
 use Rattle.outside_core.specs.declared.read_error.ReadError.{ReadError}
-use Rattle.outside_core.specs.declared.read_error.ReadError.TheVariants.{Fault}
+use Rattle.outside_core.specs.declared.read_error.ReadError.TheVariants.{Fault, Source}
 use Rattle.sched_defs.specs.Faults.{FaultAt}
+use Rattle.sched_defs.specs.Numbered.{IsSendable}
 
 -- the greatest number of packets that can arrive
 abbrev pub most_packets : ℕ
@@ -55,3 +59,29 @@ IsOver left = IfSome left (λ l. (l.packets ≡ []) × (l.fault ≡ None))
 abbrev pub IsReadError : Option Left → ReadError → Type 0
 IsReadError left (Fault c p) = IfSome left (λ l. (l.packets ≡ []) × (l.fault ≡ Some (record { code = c; place = p })))
 IsReadError left _ = ⊤
+
+-- ---- the results of a call that reads the next packet
+-- The packet has the next number, can be sent, and was the first one left. Its captured bytes are the
+-- known ones, and at most 262,144.
+pub record IsNextPacket (policy : Policy) (given : ℕ) (before after : Option Left) (known : Captured → Type 0) (p : Packet) (captured : List ℕ) : Type 0 where
+  pub number : p.number ≡ given + 1
+  pub sendable : IsSendable policy p
+  pub came : Came before after (p ∷ [])
+  pub bytes : IsKnownAs known p.number captured
+  pub short : length captured ≤ most_captured
+
+-- no packet arrived, and no packet and no fault is left
+pub record HasEnded (before after : Option Left) : Type 0 where
+  pub none : Came before after []
+  pub over : IsOver after
+
+-- the packet that arrived is counted, the count is within the limit, and the call can be made again
+pub record MovesOn (result : Result Bool ReadError) (n n' : ℕ) (again : Type 0) : Type 0 where
+  pub given : IfOk result (λ some. n' ≡ n + (if some then 1 else 0))
+  pub few : OnOk result (n' ≤ most_packets)
+  pub ready : OnOk result again
+
+-- the count of faults doesn't fall, and rises if the call reports a fault of the source
+pub record CountsFaults (result : Result Bool ReadError) (n n' : ℕ) : Type 0 where
+  pub later : n ≤ n'
+  pub cause : IsErrOf result Source → Rose n n'

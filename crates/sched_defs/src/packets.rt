@@ -1,10 +1,8 @@
 //! The trait of packets that arrive one by one.
-ghost use Rattle.std.specs.Prelude.{◌≡◌, ◌≤◌, ◌+◌, ℕ, true, false, Option, List, [], ◌∷◌, length, if◌then◌else◌, IfOk, IfErr, OnOk, IsErrOf};
-ghost use Rattle.outside_core.specs.Faults.{Rose};
-ghost use Rattle.pcap_defs.specs.Record.{most_captured};
+ghost use Rattle.std.specs.Prelude.{◌≡◌, ℕ, true, false, Option, List, IfOk, IfErr, OnOk};
 ghost use Rattle.policy_defs.specs.Policy.{Policy};
-ghost use Rattle.sched_defs.specs.Numbered.{IsSendable};
-ghost use Rattle.sched_defs.specs.Packets.{most_packets, Left, Came, OneCame, Captured, StaysKnown, IsKnownAs, AreThere, IsOver, IsReadError};
+ghost use Rattle.sched_defs.specs.Packets.{Left, OneCame, Captured, StaysKnown, AreThere, IsReadError};
+ghost use Rattle.sched_defs.specs.Packets.{IsNextPacket, HasEnded, MovesOn, CountsFaults};
 
 use outside_core::ReadError;
 use packet_defs::Packet;
@@ -40,31 +38,19 @@ pub trait Packets {
     fn next(&mut self, source: &mut Self::Source, packet: &mut Packet) -> Result<bool, ReadError>
         requires ready { ready self.old source.old }
 
-        ensures number { IfOk result (λ some. some ≡ true → packet.new.number ≡ given self.old +
-            1) }
-        ensures sendable { IfOk result (λ some. some ≡ true →
-            IsSendable (policy self.old) packet.new) }
-        ensures came { IfOk result (λ some. some ≡ true → Came (left self.old source.old)
-            (left self.new source.new) (packet.new ∷ [])) }
-        ensures bytes { IfOk result (λ some. some ≡ true → IsKnownAs (captures self.old source.old)
-            packet.new.number (captured self.new)) }
-        ensures short { IfOk result (λ some. some ≡ true → length (captured self.new) ≤
-            most_captured) }
+        ensures next { IfOk result (λ some. some ≡ true → IsNextPacket (policy self.old)
+            (given self.old) (left self.old source.old) (left self.new source.new)
+            (captures self.old source.old) packet.new (captured self.new)) }
         ensures known { OnOk result (StaysKnown (captures self.old source.old)
             (captures self.new source.new)) }
-        ensures none { IfOk result (λ some. some ≡ false → Came (left self.old source.old)
-            (left self.new source.new) []) }
-        ensures over { IfOk result (λ some. some ≡ false → IsOver (left self.new source.new)) }
+        ensures ended { IfOk result (λ some. some ≡ false →
+            HasEnded (left self.old source.old) (left self.new source.new)) }
         ensures fault { IfErr result (λ error. IsReadError (left self.old source.old) error) }
 
-        ensures given { IfOk result (λ some. given self.new ≡ given self.old +
-            (if some then 1 else 0)) }
-        ensures few { OnOk result (given self.new ≤ most_packets) }
-        ensures ready { OnOk result (ready self.new source.new) }
+        ensures moves { MovesOn result (given self.old) (given self.new)
+            (ready self.new source.new) }
         ensures policy { policy self.new ≡ policy self.old }
-        ensures later { faults source.old ≤ faults source.new }
-        ensures cause { IsErrOf result ReadError.Source →
-            Rose (faults source.old) (faults source.new) };
+        ensures source { CountsFaults result (faults source.old) (faults source.new) };
 
     /// Skips the next packet, and returns whether one was left. It may be called again after the
     /// last packet, but not after an error.
@@ -73,19 +59,14 @@ pub trait Packets {
 
         ensures came { IfOk result (λ some. some ≡ true → OneCame (left self.old source.old)
             (left self.new source.new)) }
-        ensures none { IfOk result (λ some. some ≡ false → Came (left self.old source.old)
-            (left self.new source.new) []) }
-        ensures over { IfOk result (λ some. some ≡ false → IsOver (left self.new source.new)) }
+        ensures ended { IfOk result (λ some. some ≡ false →
+            HasEnded (left self.old source.old) (left self.new source.new)) }
         ensures fault { IfErr result (λ error. IsReadError (left self.old source.old) error) }
 
-        ensures given { IfOk result (λ some. given self.new ≡ given self.old +
-            (if some then 1 else 0)) }
-        ensures few { OnOk result (given self.new ≤ most_packets) }
-        ensures ready { OnOk result (ready self.new source.new) }
+        ensures moves { MovesOn result (given self.old) (given self.new)
+            (ready self.new source.new) }
         ensures policy { policy self.new ≡ policy self.old }
-        ensures later { faults source.old ≤ faults source.new }
-        ensures cause { IsErrOf result ReadError.Source →
-            Rose (faults source.old) (faults source.new) };
+        ensures source { CountsFaults result (faults source.old) (faults source.new) };
 
     /// Returns the captured bytes of the most recent packet, if it wasn't skipped.
     fn captured(&self) -> &[u8]

@@ -5,5 +5,6 @@ pub mod LiftMoves
 pub mod DepartedPackets
 pub mod ClassLanes
 pub mod PushedLanes
+pub mod ArrivedPackets
 pub mod QueuedTotals
 pub mod FivePoints

@@ -70,3 +70,7 @@ sound-holds policy s l queues sound e lifted = record {
 -- a tree laid into a complete tree is its images and the arities
 pub same_laid : (l : Laid) (images : Tree Address) (arities : List ℕ) → l.images ≡ images → l.arities ≡ arities → l ≡ record { images = images; arities = arities }
 same_laid l images arities p q = λ i. record { images = p i; arities = q i }
+
+-- a map that is known to be the one laid is good
+pub laid-good : (inside l : Laid) → inside ≡ l → IsLaid inside.images inside.arities → IsGoodMap (length l.arities) l.images
+laid-good inside l same laid = subst (λ (z : Laid). IsGoodMap (length z.arities) z.images) same laid.good

@@ -1,8 +1,14 @@
 -- The source states that a scheduler over a fabric represents.
-use Rattle.std.specs.Prelude.{◌≡◌, ◌↔◌, ◌+◌, ℕ, List}
-use Rattle.tree_defs.specs.Tree.{Tree, Address}
+use Rattle.std.specs.Prelude.{◌≡◌, ◌↔◌, ◌+◌, ◌<◌, ◌^◌, ℕ, List}
+use Rattle.tree_defs.specs.Tree.{Tree, Address, SameShape}
+use Rattle.tree_defs.specs.Topology.{topology_of, complete}
+use Rattle.embed_defs.specs.Embedding.{IsEmbedding}
+use Rattle.embed_defs.specs.Family.{SameQueues}
 use Rattle.embed_defs.specs.Images.{image_map}
 use Rattle.embed_defs.specs.Lift.{IsLift}
+use Rattle.embed_defs.specs.Target.{IsInRange}
+use Rattle.policy_defs.specs.Policy.{Policy}
+use Rattle.target_core.specs.declared.target.Target.{Target}
 use Rattle.fabric_core.specs.declared.fabric.Fabric.{Ghosts}
 use Rattle.sched_defs.specs.SourceState.{SourceState}
 use Rattle.sched_defs.specs.Sound.{IsSound}
@@ -30,6 +36,29 @@ pub record EmbeddedStands {F : Type 0} (fabrics : Ghosts F) (c : Embedded F) (fa
   pub lifted : IsLift s.tree (image_map c.embedding.images) (fabrics.queues fabric)
   pub pushes : fabrics.pushed fabric ≡ c.pushes_before + c.own.pushes
   pub pops : fabrics.popped fabric ≡ c.pops_before + c.own.departures
+
+-- ---- a new scheduler
+-- the target is in range, and the map embeds the policy's tree into it
+pub record MapsInto (policy : Policy) (images : Tree Address) (target : Target) : Type 0 where
+  pub range : IsInRange target.arities target.above
+  pub map_shape : SameShape (topology_of policy.tree) images
+  pub embedding : IsEmbedding (topology_of policy.tree) (complete target.arities) (image_map images)
+
+-- the fabric's counts of pushes and pops are small enough for another run
+pub record CanCount {F : Type 0} (fabrics : Ghosts F) (fabric : F) : Type 0 where
+  pub pushes : fabrics.pushed fabric < 2 ^ 61
+  pub pops : fabrics.popped fabric < 2 ^ 61
+
+-- the shape and the queues of a fabric are the same
+pub record KeepsQueues {F : Type 0} (fabrics : Ghosts F) (old new : F) : Type 0 where
+  pub shape : fabrics.shape new ≡ fabrics.shape old
+  pub queues : SameQueues (fabrics.queues new) (fabrics.queues old)
+
+-- its counts of pushes, pops and spills are the same
+pub record KeepsCounts {F : Type 0} (fabrics : Ghosts F) (old new : F) : Type 0 where
+  pub pushed : fabrics.pushed new ≡ fabrics.pushed old
+  pub popped : fabrics.popped new ≡ fabrics.popped old
+  pub spilled : fabrics.spilled new ≡ fabrics.spilled old
 
 -- ---- five points
 -- the node states, the queued packets and the latest timestamp

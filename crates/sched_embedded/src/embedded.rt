@@ -1,15 +1,11 @@
 //! The scheduler over the queues of a fabric.
 ghost use Rattle.std.specs.Prelude.{◌≡◌, ◌^◌, ◌<◌, IfOk, OnErr};
 ghost use Rattle.tree_defs.specs.Tree.{SameShape};
-ghost use Rattle.tree_defs.specs.Topology.{topology_of, complete};
-ghost use Rattle.embed_defs.specs.Family.{SameQueues};
-ghost use Rattle.embed_defs.specs.Target.{IsInRange};
-ghost use Rattle.embed_defs.specs.Images.{image_map};
-ghost use Rattle.embed_defs.specs.Embedding.{IsEmbedding};
+ghost use Rattle.tree_defs.specs.Topology.{topology_of};
 ghost use Rattle.embed_defs.specs.GoodMaps.{IsGoodMap};
 ghost use Rattle.sched_embedded.specs.Laid.{HasLanes, MapsToLeaves};
 ghost use Rattle.sched_defs.specs.SourceState.{start};
-ghost use Rattle.sched_core.specs.PolicyState.{policy_in};
+ghost use Rattle.sched_core.specs.PolicyState.{policy_in, CountsAre};
 ghost use Rattle.sched_embedded.specs.Codes.{one_way_to_be_the_same, one_way_to_have_lanes, one_way_to_map_to_leaves};
 
 use crate::embedding::Embedding;
@@ -39,7 +35,7 @@ pub struct Embedded<'a, F> {
 }
 
 impl<'a, F: Fabric> Embedded<'a, F> {
-    ghost use Rattle.sched_embedded.specs.Embedded.{EmbeddedStands, origin_of, origin_in};
+    ghost use Rattle.sched_embedded.specs.Embedded.{EmbeddedStands, origin_of, origin_in, MapsInto, CanCount, KeepsQueues, KeepsCounts};
 
     /// Returns a scheduler that saw no event yet. Sets the fabric's shape to the target's, and its
     /// queues are then empty. The error means out of memory, and leaves the fabric unchanged.
@@ -50,25 +46,17 @@ impl<'a, F: Fabric> Embedded<'a, F> {
         target: &Target,
         fabric: &mut F,
     ) -> Result<Embedded<'a, F>, AllocError>
-        requires range { IsInRange target.now.arities target.now.above }
-        requires map_shape { SameShape (topology_of policy.now.policy.tree) map }
-        requires embedding { IsEmbedding (topology_of policy.now.policy.tree)
-            (complete target.now.arities) (image_map map) }
-        requires pushes { F.pushed fabric.old < 2 ^ 61 }
-        requires pops { F.popped fabric.old < 2 ^ 61 }
+        requires placed { MapsInto policy.now.policy map target.now }
+        requires few { CanCount F.Fabric fabric.old }
 
         ensures stands { IfOk result (λ c. EmbeddedStands F.Fabric c fabric.new
             (start policy.now.policy)) }
         ensures policy { IfOk result (λ c. policy_in c.own ≡ policy.now.policy) }
-        ensures pushes { IfOk result (λ c. c.own.pushes ≡ 0) }
-        ensures departures { IfOk result (λ c. c.own.departures ≡ 0) }
+        ensures fresh { IfOk result (λ c. CountsAre c.own 0 0) }
         ensures origin { IfOk result (λ c. origin_of c ≡ origin_in F.Fabric map target.now.arities
             fabric.old) }
-        ensures shape { OnErr result (F.shape fabric.new ≡ F.shape fabric.old) }
-        ensures queues { OnErr result (SameQueues (F.queues fabric.new) (F.queues fabric.old)) }
-        ensures pushed { F.pushed fabric.new ≡ F.pushed fabric.old }
-        ensures popped { F.popped fabric.new ≡ F.popped fabric.old }
-        ensures spilled { F.spilled fabric.new ≡ F.spilled fabric.old }
+        ensures unchanged { OnErr result (KeepsQueues F.Fabric fabric.old fabric.new) }
+        ensures counts { KeepsCounts F.Fabric fabric.old fabric.new }
     {
         let own = PolicyState::new(alloc, policy)?;
         let lanes = class_lanes(alloc, policy, &map, target.arities.len())?;
@@ -132,11 +120,11 @@ impl<'a, F: Fabric> Scheduler for Embedded<'a, F> {
             return Ok(Arrival::Dropped(self.own.drop_packet(packet)));
         }
         let lane = &self.lanes[packet.class as usize];
-        under.reserve(lane.image())?;
+        under.reserve(&lane.image)?;
         let leaf = self.own.admit(packet, trace)?;
         let embedding = &mut self.embedding;
         lane.lift(trace.ranks(), &mut embedding.ranks);
-        under.push(lane.image(), &embedding.ranks, packet.number);
+        under.push(&lane.image, &embedding.ranks, packet.number);
         Ok(Arrival::Pushed(leaf))
     }
 

@@ -18,3 +18,4 @@ pub mod StartLaws
 pub mod LoadLaws
 pub mod LoadLeaves
 pub mod DepartureLaws
+pub mod NameLaws

@@ -8,6 +8,9 @@ use Rattle.policy_defs.specs.Numbers.{number_at, number_below}
 use Rattle.sched_defs.specs.Events as events
 use Rattle.sched_defs.specs.Events.{Arrive}
 use Rattle.sched_defs.specs.Laws.{LeavesItsLeaf}
+use Rattle.outside_core.specs.Report.{departure_line}
+use Rattle.sched_defs.specs.Report.{outcome_line}
+use Rattle.sched_run.specs.Played.{line_of}
 use Rattle.sched_defs.proofs.Leaving.{arrives_at_a_leaf, leaves_its_leaf}
 use Rattle.sched_defs.proofs.Soundness.{class_is_ready}
 use Rattle.sched_core.specs.declared.scheduler.Arrival.TheVariants as arrival
@@ -121,6 +124,15 @@ pub outcome_left : (policy : Policy) (s : SourceState) (d : Departed) (ranks : L
 outcome_left policy s d ranks start h r =
     ap (λ (z : List ℕ). events.Departed h.leaver_is.packet h.leaver_is.digits z start ∷ []) r
     ∙ sym (ap (λ (o : Option Leaver). departure start o ∷ []) h.leaves)
+
+-- the line of a packet that departed
+pub line_left : (policy : Policy) (s : SourceState) (d : Departed) (event : ℕ) (name ranks : List ℕ) (start : Option ℕ) (h : Left policy s d) → name ≡ name_at policy h.leaver_is.digits → ranks ≡ h.leaver_is.ranks
+    → departure_line event d.packet name ranks start ≡ line_of policy event (Depart start) s
+line_left policy s d event name ranks start h named r =
+    ap (λ (z : Departed). departure_line event z.packet name ranks start) (sym h.told)
+    ∙ ap (λ (z : List ℕ). departure_line event h.leaver_is.packet.number z ranks start) named
+    ∙ ap (λ (z : List ℕ). departure_line event h.leaver_is.packet.number (name_at policy h.leaver_is.digits) z start) r
+    ∙ sym (ap (λ (o : Option Leaver). outcome_line policy event (departure start o)) h.leaves)
 
 -- ---- arrivals
 -- the leaf at which a packet arrives

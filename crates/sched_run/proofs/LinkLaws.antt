@@ -79,10 +79,10 @@ module _ (policy : Policy) (rate : LinkRate) (until : Option ℕ) where
           (sym (append_assoc events (Depart (Some now) ∷ []) (send_until policy rate until (held - (done + 1)) (departed policy mid) (now + send_time one.0.packet.len rate)).events))
 
       -- one more packet is sent
-      pub part_goes : (o : Option Departed) (now' : ℕ) → o ≡ next_departed policy mid → IfSome o (λ d. now' ≡ now + send_time d.len rate) → IsPart policy rate until held (done + 1) first now' (events ++ Depart (Some now) ∷ []) s
+      pub part_goes : (o : Option ℕ) (now' : ℕ) → o ≡ option_map (λ (d : Departed). d.len) (next_departed policy mid) → IfSome o (λ len. now' ≡ now + send_time len rate) → IsPart policy rate until held (done + 1) first now' (events ++ Depart (Some now) ∷ []) s
       part_goes o now' told free =
-          let some : o ≡ Some (departed_packet policy one.0) = told ∙ ap (option_map (departed_packet policy)) one.1 in
-          let later : now' ≡ now + send_time one.0.packet.len rate = subst (λ (x : Option Departed). IfSome x (λ d. now' ≡ now + send_time d.len rate)) some free in
+          let some : o ≡ Some one.0.packet.len = told ∙ ap (λ (l : Option Leaver). option_map (λ (d : Departed). d.len) (option_map (departed_packet policy) l)) one.1 in
+          let later : now' ≡ now + send_time one.0.packet.len rate = subst (λ (x : Option ℕ). IfSome x (λ len. now' ≡ now + send_time len rate)) some free in
           let state : after policy (events ++ Depart (Some now) ∷ []) s ≡ departed policy mid = after-append policy events (Depart (Some now) ∷ []) s in
           record {
             joined = unfolded
@@ -149,7 +149,7 @@ module _ {C U W : Type 0} (S : Ghosts C U) (R : Recordings W) (laws : AreJoined 
         omega (arith, leaves.asked, counts.asked, part.made.asked)
 
     module _ (below : done < held) (due : is_due until now ≡ true) where
-      pub sends_goes : (o : Option Departed) (now' : ℕ) (new : Stage C U W) → ForEachState S.stands policy mid.scheduler mid.under (λ s. o ≡ next_departed policy s) → IfSome o (λ d. now' ≡ now + send_time d.len rate)
+      pub sends_goes : (o : Option ℕ) (now' : ℕ) (new : Stage C U W) → ForEachState S.stands policy mid.scheduler mid.under (λ s. o ≡ option_map (λ (d : Departed). d.len) (next_departed policy s)) → IfSome o (λ len. now' ≡ now + send_time len rate)
           → Makes S R policy (Depart (Some now) ∷ []) mid new → SendsPart S R policy rate until held (done + 1) first now' old new
       sends_goes o now' new value time made = record {
         events = part.events ++ Depart (Some now) ∷ [];

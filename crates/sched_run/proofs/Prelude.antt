@@ -16,7 +16,7 @@ pub use Rattle.policy_defs.specs.Policy.{Policy, Node, name_at, node_at}
 pub use Rattle.report_core.proofs.TextLaws.{IsCut-append, IsCut-longer}
 pub use Rattle.report_core.specs.Gathered.{CutsOff, Tells, text_of, Gathered}
 pub use Rattle.sched_core.specs.Arrivals.{arrival_of, leaf_number, pushes_of}
-pub use Rattle.sched_core.specs.Departures.{departed_packet, IsTaken, next_departed}
+pub use Rattle.sched_core.specs.Departures.{departed_packet, IsTaken, IsDeparture, KeepsTrace, next_departed}
 pub use Rattle.sched_core.specs.Standing.{ForEachState, StandForOne}
 pub use Rattle.sched_core.specs.declared.scheduler.Arrival.{Arrival}
 pub use Rattle.sched_core.specs.declared.scheduler.Scheduler.{Ghosts}

@@ -25,7 +25,7 @@ use Rattle.sched_run.specs.Steps.{asked_by}
 -- for a path, and outcomes can be recorded
 pub record IsSet {C U N W : Type 0} (S : Ghosts C U) (R : recorder.Ghosts W) (named : N → Policy) (run : Run C N W) : Type 0 where
   pub accepted : IsAccepted (S.policy run.scheduler)
-  pub names : named run.names.now ≡ S.policy run.scheduler
+  pub names : named run.names ≡ S.policy run.scheduler
   pub version : run.version ≡ (S.policy run.scheduler).version
   pub room : depth (S.policy run.scheduler).tree ≤ run.trace.room
   pub live : R.live run.recorder
@@ -35,7 +35,7 @@ pub record IsSet {C U N W : Type 0} (S : Ghosts C U) (R : recorder.Ghosts W) (na
 pub record Continues {C U N W : Type 0} (S : Ghosts C U) (old new : Run C N W) : Type 0 where
   pub policy : S.policy new.scheduler ≡ S.policy old.scheduler
   pub origin : S.origin new.scheduler ≡ S.origin old.scheduler
-  pub names : new.names.now ≡ old.names.now
+  pub names : new.names ≡ old.names
   pub version : new.version ≡ old.version
   pub room : new.trace.room ≡ old.trace.room
 

@@ -13,3 +13,4 @@ pub mod Courses
 pub mod Load
 pub mod Drawings
 pub mod Sums
+pub mod Names

@@ -96,7 +96,7 @@ fn close<K: Sink>(
     report.finish(sink)
 }
 
-impl<'a, C: Scheduler + Drop, N: NodeNames, W: DepartureRecorder> Run<'a, C, N, W> {
+impl<C: Scheduler + Drop, N: NodeNames + Drop, W: DepartureRecorder> Run<C, N, W> {
     ghost use Rattle.std.specs.Prelude.{◌≡◌, ◌≤◌, true, false, IfOk, IfSome, IsNone, OnOk, OnErr};
     ghost use Rattle.events_core.specs.Script.{most_count};
     ghost use Rattle.events_core.specs.Steps.{counts_of};
@@ -199,7 +199,7 @@ impl<'a, C: Scheduler + Drop, N: NodeNames, W: DepartureRecorder> Run<'a, C, N, 
     }
 }
 
-impl<'a, C: Scheduler + Drop, N: NodeNames> Run<'a, C, N, Report> {
+impl<C: Scheduler + Drop, N: NodeNames + Drop> Run<C, N, Report> {
     ghost use Rattle.std.specs.Prelude.{◌≡◌, [], IfOk, OnOk, OnErr};
     ghost use Rattle.report_core.specs.Gathered.{text_of};
     ghost use Rattle.sched_run.specs.Frames.{IsSet, Stand, Feeds, HasRoomToBegin, KeepsPlay};

@@ -7,7 +7,7 @@ use crate::departure::DepartureRecorder;
 use crate::run::Run;
 use events_core::Link;
 use outside_core::{ReadError, Sink, Stop};
-use packet_defs::{BLANK, Departed, Packet};
+use packet_defs::{BLANK, Packet};
 use policy_defs::NodeNames;
 use sched_core::Scheduler;
 use sched_defs::{Ending, LinkRate, Packets};
@@ -23,16 +23,16 @@ fn is_due(link: &Link, until: Option<u64>) -> bool
     }
 }
 
-/// Keeps the link busy for the send time of the departed packet, if there is one.
-fn take_time(link: &mut Link, departed: Option<Departed>, rate: LinkRate)
+/// Keeps the link busy for the send time of a departed packet of this length, if there is one.
+fn take_time(link: &mut Link, departed: Option<u32>, rate: LinkRate)
     requires early { link.old < 2 ^ 126 }
     requires rate { IsRate rate }
 
-    ensures time { IfSome departed (λ d. link.new ≡ link.old + send_time d.len rate) }
+    ensures time { IfSome departed (λ len. link.new ≡ link.old + send_time len rate) }
     ensures soon { link.new ≤ link.old + 2 ^ 62 }
 {
-    if let Some(departed) = departed {
-        link.send_at(departed.len, rate);
+    if let Some(len) = departed {
+        link.send_at(len, rate);
     }
 }
 
@@ -45,7 +45,7 @@ fn idle_at(link: &mut Link, held: u64, moment: u64)
     }
 }
 
-impl<'a, C: Scheduler + Drop, N: NodeNames, W: DepartureRecorder> Run<'a, C, N, W> {
+impl<C: Scheduler + Drop, N: NodeNames + Drop, W: DepartureRecorder> Run<C, N, W> {
     ghost use Rattle.std.specs.Prelude.{◌≡◌, ◌≤◌, ◌+◌, ◌^◌, ℕ, if◌then◌else◌, IfOk, OnErr};
     ghost use Rattle.tree_defs.specs.SourceTree.{size};
     ghost use Rattle.sched_defs.specs.Link.{send_until, link_turn};

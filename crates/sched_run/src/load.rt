@@ -13,7 +13,7 @@ use tap_core::{Tap, Watching};
 /// The most events that are drawn for a load.
 pub const MOST_LOAD: u64 = 1_000_000;
 
-impl<'a, C: Scheduler + Drop, N: NodeNames, W: DepartureRecorder> Run<'a, C, N, W> {
+impl<C: Scheduler + Drop, N: NodeNames + Drop, W: DepartureRecorder> Run<C, N, W> {
     ghost use Rattle.std.specs.Prelude.{◌≡◌, ◌≤◌, ◌+◌, ℕ, [], ◌∷◌, IfOk, OnOk, OnErr};
     ghost use Rattle.sched_defs.specs.Numbered.{IsHeldBelow};
     ghost use Rattle.sched_core.specs.Standing.{ForEachState};

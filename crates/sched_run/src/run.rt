@@ -8,8 +8,8 @@ use tree_core::Taken;
 /// A scheduler in a run: its policy's node names and version, room for the path of a packet, the
 /// recorder of the outcomes, and the count of the events so far.
 #[derive(Drop)]
-pub struct Run<'a, C: Drop, N, W: Drop> {
-    pub(crate) names: &'a N,
+pub struct Run<C: Drop, N: Drop, W: Drop> {
+    pub(crate) names: N,
     pub(crate) version: u32,
     pub(crate) scheduler: C,
     pub(crate) trace: Taken,
@@ -17,7 +17,7 @@ pub struct Run<'a, C: Drop, N, W: Drop> {
     pub(crate) tally: Tally,
 }
 
-impl<'a, C: Drop, N, W: Drop> Run<'a, C, N, W> {
+impl<C: Drop, N: Drop, W: Drop> Run<C, N, W> {
     ghost use Rattle.std.specs.Prelude.{◌≡◌, IfOk};
     ghost use Rattle.sched_run.specs.Stages.{IsFresh};
 
@@ -26,13 +26,13 @@ impl<'a, C: Drop, N, W: Drop> Run<'a, C, N, W> {
     /// line shows how many packets were dropped. The error means out of memory.
     pub fn new(
         alloc: Global,
-        names: &'a N,
+        names: N,
         depth: u32,
         version: u32,
         scheduler: C,
         recorder: W,
-    ) -> Result<Run<'a, C, N, W>, AllocError>
-        ensures names { IfOk result (λ run. run.names.now ≡ names.now) }
+    ) -> Result<Run<C, N, W>, AllocError>
+        ensures names { IfOk result (λ run. run.names ≡ names) }
         ensures version { IfOk result (λ run. run.version ≡ version) }
         ensures scheduler { IfOk result (λ run. run.scheduler ≡ scheduler) }
         ensures room { IfOk result (λ run. run.trace.room ≡ depth) }
@@ -51,7 +51,7 @@ impl<'a, C: Drop, N, W: Drop> Run<'a, C, N, W> {
 
     /// Ends the run, and returns its recorder.
     pub fn into_recorder(self) -> W
-        ensures { result ≡ self.entry.recorder }
+        ensures { result ≡ self.recorder }
     {
         self.recorder
     }

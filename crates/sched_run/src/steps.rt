@@ -5,14 +5,14 @@ use crate::departure::{Departure, DepartureRecorder};
 use crate::run::Run;
 use events_core::Step;
 use outside_core::{ReadError, Sink, Stop};
-use packet_defs::{BLANK, Departed, Packet};
+use packet_defs::{BLANK, Packet};
 use policy_defs::NodeNames;
 use sched_core::{Arrival, Scheduler};
 use sched_defs::{Ending, Packets};
 use tap_core::{Dropped, Tap, Watching};
 
-impl<'a, C: Scheduler + Drop, N: NodeNames, W: DepartureRecorder> Run<'a, C, N, W> {
-    ghost use Rattle.std.specs.Prelude.{◌≡◌, ◌≤◌, ◌+◌, ℕ, [], ◌∷◌, length, replicate, None, IfOk, IfNone, OnOk, OnErr};
+impl<C: Scheduler + Drop, N: NodeNames + Drop, W: DepartureRecorder> Run<C, N, W> {
+    ghost use Rattle.std.specs.Prelude.{◌≡◌, ◌≤◌, ◌+◌, ℕ, [], ◌∷◌, length, replicate, None, IfOk, IfNone, OnOk, OnErr, option_map};
     ghost use Rattle.pcap_defs.specs.Record.{most_captured};
     ghost use Rattle.sched_defs.specs.Events.{Arrive, Depart, CanArrive};
     ghost use Rattle.sched_defs.specs.Numbered.{IsHeldBelow};
@@ -57,7 +57,7 @@ impl<'a, C: Scheduler + Drop, N: NodeNames, W: DepartureRecorder> Run<'a, C, N, 
             sink.new
             (sight_of T.kind_of T.state_of watch.old) (sight_of T.kind_of T.state_of watch.new) }
     {
-        let event = self.tally.event();
+        let event = self.tally.came + self.tally.asked + 1;
         let arrival = self.scheduler.arrive(under, packet, &mut self.trace)?;
         match arrival {
             Arrival::Pushed(leaf) => {
@@ -123,7 +123,10 @@ impl<'a, C: Scheduler + Drop, N: NodeNames, W: DepartureRecorder> Run<'a, C, N, 
                 self.make_arrival(under, sink, watch, &packet, packets.captured())?;
                 Ok(None)
             }
-            Ok(false) => Ok(Some(Ending::PastLast(self.tally.event()))),
+            Ok(false) => {
+                let event = self.tally.came + self.tally.asked + 1;
+                Ok(Some(Ending::PastLast(event)))
+            }
             Err(ReadError::Fault(code, place)) => Ok(Some(Ending::BadCapture(code, place))),
             Err(ReadError::Source) => Err(Stop::Source),
             Err(ReadError::Memory) => Err(Stop::Memory),
@@ -218,8 +221,8 @@ impl<'a, C: Scheduler + Drop, N: NodeNames, W: DepartureRecorder> Run<'a, C, N, 
     }
 
     /// Makes a departure, records and counts it, and shows it to the taps that watch. `start` is
-    /// its timestamp in nanoseconds if a link paces it. The error may mean out of memory for the
-    /// line of a finished tap.
+    /// its timestamp in nanoseconds if a link paces it. Returns the length of the packet that
+    /// departed. The error may mean out of memory for the line of a finished tap.
     #[inline(always)]
     pub(crate) fn depart_next<K: Sink, T: Tap>(
         &mut self,
@@ -227,7 +230,7 @@ impl<'a, C: Scheduler + Drop, N: NodeNames, W: DepartureRecorder> Run<'a, C, N, 
         sink: &mut K,
         watch: &mut Watching<T>,
         start: Option<u128>,
-    ) -> Result<Option<Departed>, Stop>
+    ) -> Result<Option<u32>, Stop>
         requires set { IsSet C.Scheduler W.Recorder N.policy self.old }
         requires stands { Stand C.Scheduler self.old under.old (λ _. Unit {0}) }
         requires room { HasRoomToDepart C.Scheduler self.old 1 }
@@ -240,31 +243,38 @@ impl<'a, C: Scheduler + Drop, N: NodeNames, W: DepartureRecorder> Run<'a, C, N, 
             Stops C.Scheduler (heard_anyway W.Recorder) (C.policy self.old.scheduler) (Depart start ∷ [])
             (stage_of self.old under.old (K.written sink.old) given
             (sight_of T.kind_of T.state_of watch.old)) self.new.scheduler under.new (K.written sink.new)) }
-        ensures value { IfOk result (λ d. FromAll C.Scheduler self.old under.old (λ s.
-            d ≡ next_departed (C.policy self.old.scheduler) s)) }
+        ensures value { IfOk result (λ len. FromAll C.Scheduler self.old under.old (λ s.
+            len ≡ option_map (λ d. d.len) (next_departed (C.policy self.old.scheduler) s))) }
         ensures counts { CountsDepartures (λ n. n ≡ self.old.tally.asked + 1) result self.old.tally
             self.new.tally }
         ensures keeps { KeepsShown C.Scheduler W.Recorder K.Sink result self.old self.new sink.old
             sink.new
             (sight_of T.kind_of T.state_of watch.old) (sight_of T.kind_of T.state_of watch.new) }
     {
-        let event = self.tally.event();
+        let event = self.tally.came + self.tally.asked + 1;
         let departed = self.recorder.depart(
-            self.names,
+            &self.names,
             &mut self.scheduler,
             under,
             &mut self.trace,
             sink,
             Departure { event, start },
-        )?;
-        self.tally.asked += 1;
-        if watch.is_idle() {
-            return Ok(departed);
+        );
+        match &departed {
+            Ok(Some(left)) => {
+                self.tally.asked += 1;
+                if watch.slots.is_empty() {
+                    return Ok(Some(left.len));
+                }
+                watch.departed(left)?;
+                Ok(Some(left.len))
+            }
+            Ok(None) => {
+                self.tally.asked += 1;
+                Ok(None)
+            }
+            Err(_) => Err(Stop::Sink),
         }
-        if let Some(left) = departed {
-            watch.departed(&left)?;
-        }
-        Ok(departed)
     }
 
     /// Makes `count` departures and records each.

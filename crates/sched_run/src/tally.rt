@@ -1,6 +1,6 @@
 //! The count of a run's events so far, and its totals.
 ghost use Rattle.std.specs.Prelude.{◌≡◌, ◌≤◌, ◌<◌, ◌+◌, ◌^◌};
-ghost use Rattle.sched_run.specs.Stages.{event_of, IsFresh};
+ghost use Rattle.sched_run.specs.Stages.{IsFresh};
 ghost use Rattle.sched_run.specs.Totals.{HasTotals, AreTotals};
 
 /// The count of a run's events so far.
@@ -36,15 +36,6 @@ impl Tally {
             dropped: 0,
             asked: 0,
         }
-    }
-
-    /// Returns the number of the next event, counted from 1.
-    #[inline(always)]
-    pub(crate) fn event(self) -> u64
-        requires few { self.came + self.asked < 2 ^ 63 }
-        ensures { result ≡ event_of self }
-    {
-        self.came + self.asked + 1
     }
 
     /// Returns the totals of a run that began with `first` packets queued and has `held` queued

@@ -117,7 +117,7 @@ fn path_to(
 {
     let lane = LiftedPath::to(alloc, map, leaf, height)?;
     let steps = steps_of(alloc, map, leaf, &lane)?;
-    let hops = hops_of(alloc, known, lane.image(), &steps)?;
+    let hops = hops_of(alloc, known, &lane.image, &steps)?;
     Ok(hops)
 }
 
@@ -133,7 +133,7 @@ fn steps_of(
     ensures long { IfOk result (λ v. length v.items ≡ length lane.now.image.items + 1) }
 {
     let ranks = numbers(alloc, leaf.len() + 1)?;
-    let mut steps = vec![in alloc; 0; lane.image().len() + 1]?;
+    let mut steps = vec![in alloc; 0; lane.image.len() + 1]?;
     lane.lift(&ranks, &mut steps);
     Ok(steps)
 }

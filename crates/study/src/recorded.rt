@@ -18,7 +18,7 @@ use policy_core::Policy;
 use sched_capture::{CapturePackets, Placement, Task, begin, direct_run, run_through};
 use sched_core::Scheduler;
 use sched_defs::Ending;
-use sched_run::{DepartureRecorder, Pace, Run};
+use sched_run::{DepartureRecorder, NameTable, Pace, Run};
 use std::alloc::Global;
 use tap_core::{Named, OrderTap, Watching};
 
@@ -36,7 +36,7 @@ pub enum Recorded<W: Drop> {
 fn record_packets<C: Scheduler + Drop, S: Shelf, K: Sink, W: DepartureRecorder>(
     alloc: Global,
     policy: &Policy,
-    run: &mut Run<'_, C, Policy, W>,
+    run: &mut Run<C, NameTable<'_>, W>,
     under: &mut C::Under,
     pace: Pace<'_>,
     packets: &mut CapturePackets<'_, S>,
@@ -80,7 +80,7 @@ fn record_packets<C: Scheduler + Drop, S: Shelf, K: Sink, W: DepartureRecorder>(
 fn record_over<C: Scheduler + Drop, S: Shelf, K: Sink, W: DepartureRecorder>(
     alloc: Global,
     policy: &Policy,
-    run: Run<'_, C, Policy, W>,
+    run: Run<C, NameTable<'_>, W>,
     under: &mut C::Under,
     task: &Task<'_, '_>,
     shelf: &mut S,

@@ -1,5 +1,5 @@
 //! Taps that observe a run.
-ghost use Rattle.std.specs.Prelude.{◌≡◌, [], ◌∷◌, List, OnOk, IfOk, IsTrue};
+ghost use Rattle.std.specs.Prelude.{◌≡◌, [], ◌∷◌, List, OnOk, IfOk};
 ghost use Rattle.tap_core.specs.Lists.{Entry, Shown, Tracks, departed, dropped, lines_of};
 ghost use Rattle.tap_core.specs.Watching.{sight_of, Begins, Shows, AreNoMore};
 
@@ -14,7 +14,9 @@ use std::alloc::{AllocError, Global};
 pub struct Watching<T: Drop> {
     alloc: Global,
     named: Named,
-    slots: Vec<Option<Vec<u8>>>,
+    /// One for each tap that observes the run, with its line once it is done. While there is none,
+    /// nothing is to be passed on.
+    pub slots: Vec<Option<Vec<u8>>>,
     taps: Vec<T>,
 }
 
@@ -50,15 +52,6 @@ impl<T: Tap> Watching<T> {
         keep_named(&mut self.taps, self.named);
         self.slots = slots(self.alloc, &self.taps)?;
         Ok(())
-    }
-
-    /// Returns whether no tap observes the run. Whatever happens then, nothing is to be passed on.
-    #[inline(always)]
-    pub fn is_idle(&self) -> bool
-        ensures idle { IsTrue result → (events : List Shown) → Shows events
-            (sight_of T.kind_of T.state_of self.now) (sight_of T.kind_of T.state_of self.now) }
-    {
-        self.slots.is_empty()
     }
 
     /// Passes a departure to each tap. The error is out of memory for the line of a tap that is

@@ -8,7 +8,7 @@ use Rattle.fabric_core.proofs.walk.push_along.Goals as goal
 
 pub loop-level-init : goal.loop-level-init
 loop-level-init g c = record {
-  pushing = pushing_first g.Q.NodeQueue c.args.arities.now c.args.digits.now c.args.ranks.now c.args.item c.args.queues.now c.requires.nodes c.requires.room c.requires.few;
+  pushing = pushing_first g.Q.NodeQueue c.args.arities.now c.args.digits.now c.args.ranks.now c.args.item c.args.queues.now c.requires.array.nodes c.requires.room c.requires.few;
   taking = refl;
   counting = counting_first g.Q.NodeQueue c.args.arities.now c.args.digits.now c.args.ranks.now c.args.queues.now;
 }
@@ -16,7 +16,7 @@ loop-level-init g c = record {
 pub overflow_add-begin : goal.overflow_add-begin
 overflow_add-begin g c =
     let l = c.loop-level in
-    omega (arith, c.requires.small, l.invariant.pushing.count, at_width c.args.arities.now (length l.queues) l.level l.begin l.width l.place l.invariant.pushing.here)
+    omega (arith, c.requires.array.small, l.invariant.pushing.count, at_width c.args.arities.now (length l.queues) l.level l.begin l.width l.place l.invariant.pushing.here)
 
 pub bounds-queues-begin : goal.bounds-queues-begin
 bounds-queues-begin g c =
@@ -36,7 +36,7 @@ push_pair-spills-requires-clause-few g c =
 pub overflow_add-begin-2 : goal.overflow_add-begin-2
 overflow_add-begin-2 g c =
     let l = c.loop-level in
-    omega (arith, c.requires.small, l.invariant.pushing.count, at_width c.args.arities.now (length l.queues) l.level l.begin l.width l.place l.invariant.pushing.here)
+    omega (arith, c.requires.array.small, l.invariant.pushing.count, at_width c.args.arities.now (length l.queues) l.level l.begin l.width l.place l.invariant.pushing.here)
 
 pub bounds-queues-begin-2 : goal.bounds-queues-begin-2
 bounds-queues-begin-2 g c =
@@ -56,17 +56,17 @@ push_pair-spills-requires-2-clause-few g c =
 pub bounds-arities-level : goal.bounds-arities-level
 bounds-arities-level g c =
     let l = c.loop-level in
-    omega (arith, c.loop-level-test.true, leaf_length c.args.arities.now c.args.digits.now c.requires.leaf)
+    omega (arith, c.loop-level-test.true, leaf_length c.args.arities.now c.args.digits.now c.requires.path.leaf)
 
 pub overflow_mul-place : goal.overflow_mul-place
 overflow_mul-place g c =
     let l = c.loop-level in
     omega (
       arith,
-      c.requires.small,
+      c.requires.array.small,
       l.invariant.pushing.count,
-      at_child_place c.args.arities.now (length l.queues) l.level l.begin l.width l.place (get_or c.args.digits.now l.level 0) (omega (arith, c.loop-level-test.true, leaf_length c.args.arities.now c.args.digits.now c.requires.leaf))
-          (digit_below l.level c.args.arities.now c.args.digits.now c.requires.leaf c.loop-level-test.true) l.invariant.pushing.here,
+      at_child_place c.args.arities.now (length l.queues) l.level l.begin l.width l.place (get_or c.args.digits.now l.level 0) (omega (arith, c.loop-level-test.true, leaf_length c.args.arities.now c.args.digits.now c.requires.path.leaf))
+          (digit_below l.level c.args.arities.now c.args.digits.now c.requires.path.leaf c.loop-level-test.true) l.invariant.pushing.here,
     )
 
 pub loop-level-preserved : goal.loop-level-preserved
@@ -74,11 +74,11 @@ loop-level-preserved g c =
     let l = c.loop-level in
     record {
       pushing = pushing_next g.Q.NodeQueue c.args.arities.now c.args.digits.now c.args.ranks.now c.args.item c.args.queues.now l.queues l.level l.begin l.width l.place c.from.result c.push_pair-spills.new.self c.index-queues-begin.result
-          c.requires.leaf c.requires.one_more c.loop-level-test.true l.invariant.pushing c.from.ensures c.push_pair-spills.ensures.entries c.push_pair-spills.ensures.pushes;
+          c.requires.path.leaf c.requires.path.one_more c.loop-level-test.true l.invariant.pushing c.from.ensures c.push_pair-spills.ensures.entries c.push_pair-spills.ensures.pushes;
       taking = taking_next g.Q.NodeQueue c.args.arities.now c.args.digits.now c.args.queues.now l.queues l.level l.begin l.width l.place c.push_pair-spills.new.self c.index-queues-begin.result
-          c.requires.leaf c.loop-level-test.true l.invariant.pushing.here l.invariant.taking c.push_pair-spills.ensures.spare;
+          c.requires.path.leaf c.loop-level-test.true l.invariant.pushing.here l.invariant.taking c.push_pair-spills.ensures.spare;
       counting = counting_next g.Q.NodeQueue c.args.arities.now c.args.digits.now c.args.ranks.now c.args.queues.now l.queues l.spilled c.from-spilled.result l.level l.begin l.width l.place c.from.result c.push_pair-spills.new.self c.index-queues-begin.result c.push_pair-spills.result
-          c.requires.leaf c.requires.one_more c.loop-level-test.true l.invariant.pushing.here l.invariant.counting c.from.ensures c.push_pair-spills.ensures.inner c.from-spilled.ensures c.push_pair-spills.ensures.flows;
+          c.requires.path.leaf c.requires.path.one_more c.loop-level-test.true l.invariant.pushing.here l.invariant.counting c.from.ensures c.push_pair-spills.ensures.inner c.from-spilled.ensures c.push_pair-spills.ensures.flows;
     }
 
 pub returns-clause-entries : goal.returns-clause-entries
@@ -86,7 +86,7 @@ returns-clause-entries g c =
     let l = c.loop-level in
     let end : length c.args.digits.now ≡ l.level = omega (arith, c.loop-level-test.false, l.auto.level-end) in
     pushed_last g.Q.NodeQueue c.args.arities.now c.args.digits.now c.args.ranks.now c.args.item c.args.queues.now l.queues l.level l.begin l.width l.place (get_or c.args.ranks.now (length c.args.digits.now) 0) c.push_pair-spills-2.new.self c.index-queues-begin-2.result
-    c.requires.leaf (omega (arith, end)) l.invariant.pushing (ap (λ (z : ℕ). get_or c.args.ranks.now z 0) end) c.push_pair-spills-2.ensures.entries
+    c.requires.path.leaf (omega (arith, end)) l.invariant.pushing (ap (λ (z : ℕ). get_or c.args.ranks.now z 0) end) c.push_pair-spills-2.ensures.entries
 
 pub returns-clause-pushes : goal.returns-clause-pushes
 returns-clause-pushes g c =
@@ -97,24 +97,18 @@ pub returns-clause-less_room : goal.returns-clause-less_room
 returns-clause-less_room g c =
     let l = c.loop-level in
     taken_last g.Q.NodeQueue c.args.arities.now c.args.digits.now c.args.queues.now l.queues l.level l.begin l.width l.place c.push_pair-spills-2.new.self c.index-queues-begin-2.result
-    c.requires.nodes c.requires.leaf (omega (arith, c.loop-level-test.false)) l.invariant.pushing.here l.invariant.taking c.push_pair-spills-2.ensures.spare
+    c.requires.array.nodes c.requires.path.leaf (omega (arith, c.loop-level-test.false)) l.invariant.pushing.here l.invariant.taking c.push_pair-spills-2.ensures.spare
 
-pub returns-clause-flows : goal.returns-clause-flows
-returns-clause-flows g c =
-    let l = c.loop-level in
-    flows_stay g.Q.NodeQueue c.args.queues.now l.queues (l.begin + l.place) c.push_pair-spills-2.new.self c.index-queues-begin-2.result l.invariant.counting.flows c.push_pair-spills-2.ensures.flows
-
-pub returns-clause-spilled : goal.returns-clause-spilled
-returns-clause-spilled g c has flow =
+pub returns-clause-spills : goal.returns-clause-spills
+returns-clause-spills g c =
     let l = c.loop-level in
     let end : length c.args.digits.now ≡ l.level = omega (arith, c.loop-level-test.false, l.auto.level-end) in
-    counted_last g.Q.NodeQueue c.args.arities.now c.args.digits.now c.args.ranks.now c.args.queues.now l.queues l.spilled c.from-2.result l.level l.begin l.width l.place (get_or c.args.ranks.now (length c.args.digits.now) 0) c.index-queues-begin-2.result c.push_pair-spills-2.result
-    c.requires.leaf (omega (arith, end)) l.invariant.pushing.here l.invariant.counting (ap (λ (z : ℕ). get_or c.args.ranks.now z 0) end) c.push_pair-spills-2.ensures.leaf c.from-2.ensures has flow
-
-pub returns-clause-few_spilled : goal.returns-clause-few_spilled
-returns-clause-few_spilled g c =
-    let l = c.loop-level in
-    omega (arith, l.invariant.counting.few, l.auto.level-end, c.from-2.ensures, few_byte c.push_pair-spills-2.result)
+    record {
+      flows = flows_stay g.Q.NodeQueue c.args.queues.now l.queues (l.begin + l.place) c.push_pair-spills-2.new.self c.index-queues-begin-2.result l.invariant.counting.flows c.push_pair-spills-2.ensures.flows;
+      spilled = counted_last g.Q.NodeQueue c.args.arities.now c.args.digits.now c.args.ranks.now c.args.queues.now l.queues l.spilled c.from-2.result l.level l.begin l.width l.place (get_or c.args.ranks.now (length c.args.digits.now) 0) c.index-queues-begin-2.result c.push_pair-spills-2.result
+          c.requires.path.leaf (omega (arith, end)) l.invariant.pushing.here l.invariant.counting (ap (λ (z : ℕ). get_or c.args.ranks.now z 0) end) c.push_pair-spills-2.ensures.leaf c.from-2.ensures;
+      few_spilled = omega (arith, l.invariant.counting.few, l.auto.level-end, c.from-2.ensures, few_byte c.push_pair-spills-2.result);
+    }
 
 pub offset_bounds-queues-begin : goal.offset_bounds-queues-begin
 offset_bounds-queues-begin g c =

@@ -9,7 +9,7 @@ use Rattle.fabric_core.proofs.walk.reserve_along.Goals as goal
 pub overflow_add-begin : goal.overflow_add-begin
 overflow_add-begin g c =
     let l = c.loop-level in
-    omega (arith, c.requires.small, l.invariant.count, at_width c.args.arities.now (length l.queues) l.level l.begin l.width l.place l.invariant.here)
+    omega (arith, c.requires.array.small, l.invariant.count, at_width c.args.arities.now (length l.queues) l.level l.begin l.width l.place l.invariant.here)
 
 pub bounds-queues-begin : goal.bounds-queues-begin
 bounds-queues-begin g c =
@@ -19,7 +19,7 @@ bounds-queues-begin g c =
 pub overflow_add-begin-2 : goal.overflow_add-begin-2
 overflow_add-begin-2 g c =
     let l = c.loop-level in
-    omega (arith, c.requires.small, l.invariant.count, at_width c.args.arities.now (length l.queues) l.level l.begin l.width l.place l.invariant.here)
+    omega (arith, c.requires.array.small, l.invariant.count, at_width c.args.arities.now (length l.queues) l.level l.begin l.width l.place l.invariant.here)
 
 pub bounds-queues-begin-2 : goal.bounds-queues-begin-2
 bounds-queues-begin-2 g c =

@@ -21,14 +21,21 @@ loop-number-init g c =
       departures = refl;
     }
 
-pub arrive-requires-clause-stands : goal.arrive-requires-clause-stands
-arrive-requires-clause-stands g c =
+pub arrive-requires : goal.arrive-requires
+arrive-requires g c =
     let policy = c.args.policy.now.policy in
     let i = c.loop-number.invariant in
     let one = i.stands in
     let p = packet c.loop-number.number in
-    asked g.C.Scheduler.stands _ policy i.same c.requires.accepted _ _ (λ q s. CanArrive q s p)
-    (record { state = one.state; sound = one.sound; stood = one.stood; has = can_come policy one.state p (packet_in policy c.requires.accepted c.loop-number.number) one.has })
+    record {
+      can = record {
+        accepted = rw (i.same) c.requires.accepted;
+        stands = asked g.C.Scheduler.stands _ policy i.same c.requires.accepted _ _ (λ q s. CanArrive q s p)
+            (record { state = one.state; sound = one.sound; stood = one.stood; has = can_come policy one.state p (packet_in policy c.requires.accepted c.loop-number.number) one.has });
+        room = rw (i.same) (omega (arith, c.requires.room, i.room));
+        few = omega (arith, i.pushes);
+      };
+    }
 
 pub loop-number-preserved : goal.loop-number-preserved
 loop-number-preserved g c =
@@ -40,6 +47,6 @@ loop-number-preserved g c =
       stands = stands_tried g.C.Scheduler.stands _ policy i.same c.requires.accepted _ _ _ _ p c.arrive.result (packet_in policy c.requires.accepted c.loop-number.number) e.state i.stands;
       same = e.kept.policy ∙ i.same;
       room = e.path.room ∙ i.room;
-      pushes = omega (arith, e.pushes, one_push_at_most c.arrive.result, i.pushes);
-      departures = e.departures ∙ i.departures;
+      pushes = omega (arith, e.counts.pushes, one_push_at_most c.arrive.result, i.pushes);
+      departures = e.counts.departures ∙ i.departures;
     }

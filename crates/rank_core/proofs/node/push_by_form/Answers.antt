@@ -1,12 +1,13 @@
-use Rattle.rank_core.proofs.Prelude.{◌≡◌, sym, rules, subst, ◌≤◌, safe_push, in_range-same, same-sym, program_of, max_rank, SameState, after_push, push_rank, state_of}
+use Rattle.rank_core.proofs.NodeKept.{pushed-keeps, pushed-low}
 use Rattle.rank_core.proofs.node.push_by_form.Goals as goal
 
-pub returns-clause-rank_limit : goal.returns-clause-rank_limit
-returns-clause-rank_limit c =
-    let is : c.run_at.result ≡ push_rank (program_of c.args.transaction.now) c.args.who.now c.args.env.now (state_of c.args.state.now) = search rules
-    in subst (λ r. r ≤ max_rank) (sym is) (safe_push (program_of c.args.transaction.now) c.requires.shaped c.requires.checked (state_of c.args.state.now) c.requires.in_range c.args.env.now c.requires.told c.args.who.now).rank
+pub returns-in-Fair-clause-keeps : goal.returns-in-Fair-clause-keeps
+returns-in-Fair-clause-keeps c =
+    pushed-keeps c.args.transaction.now c.args.who.now c.args.env.now c.args.state.now c.run_for.new.state c.requires.can c.run_for.ensures.room c.run_for.ensures.children c.run_for.ensures.after
 
-pub returns-clause-in_range : goal.returns-clause-in_range
-returns-clause-in_range c =
-    let after : SameState (state_of c.run_at.new.state) (after_push (program_of c.args.transaction.now) c.args.who.now c.args.env.now (state_of c.args.state.now)) = search rules
-    in in_range-same (program_of c.args.transaction.now) _ _ (same-sym _ _ after) (safe_push (program_of c.args.transaction.now) c.requires.shaped c.requires.checked (state_of c.args.state.now) c.requires.in_range c.args.env.now c.requires.told c.args.who.now).after
+pub returns-in_default-clause-rank_limit : goal.returns-in_default-clause-rank_limit
+returns-in_default-clause-rank_limit c = pushed-low c.args.transaction.now c.args.who.now c.args.env.now c.args.state.now _ c.requires.can c.run_lines.ensures.rank
+
+pub returns-in_default-clause-keeps : goal.returns-in_default-clause-keeps
+returns-in_default-clause-keeps c =
+    pushed-keeps c.args.transaction.now c.args.who.now c.args.env.now c.args.state.now c.run_lines.new.state c.requires.can c.run_lines.ensures.room c.run_lines.ensures.children c.run_lines.ensures.after

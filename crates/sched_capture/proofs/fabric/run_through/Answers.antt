@@ -11,6 +11,6 @@ returns-in_err-run-clause-part g c =
       made = [];
       unmade = events;
       whole = refl;
-      holds = holds_after g.F.Fabric c.args.policy.now.policy laid c.in_ok-scheduler.scheduler c.args.fabric.now c.new.new.fabric n.origin n.pushes n.departures n.spilled [] c.in_ok-scheduler.scheduler c.new.new.fabric
+      holds = holds_after g.F.Fabric c.args.policy.now.policy laid c.in_ok-scheduler.scheduler c.args.fabric.now c.new-2.new.fabric n.origin n.fresh.pushes n.fresh.departures n.counts.spilled [] c.in_ok-scheduler.scheduler c.new-2.new.fabric
           n.stands (omega arith) (omega arith) refl (sym (raised_nothing _));
     }))

@@ -10,7 +10,7 @@ loop-unsent-preserved g c =
     let one = e.came c.in-Ok-true.field-0-test in
     record {
       came = (ps ++ one.0 ∷ [], omega (arith, length-append ps (one.0 ∷ []), i.came.1), came_both _ _ _ ps (one.0 ∷ []) i.came.2 one.1);
-      few = omega (arith, i.few, rw c.in-Ok-true.field-0-test at e.given);
-      ready = e.ready;
-      kept = record { policy = e.policy ∙ i.kept.policy; later = omega (arith, i.kept.later, e.later) };
+      few = omega (arith, i.few, rw c.in-Ok-true.field-0-test at e.moves.given);
+      ready = e.moves.ready;
+      kept = record { policy = e.policy ∙ i.kept.policy; later = omega (arith, i.kept.later, e.source.later) };
     }

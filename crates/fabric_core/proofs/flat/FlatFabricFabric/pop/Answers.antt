@@ -1,57 +1,50 @@
-use Rattle.fabric_core.proofs.Prelude.{ℕ, arith, ◌≡◌, List, [], length, sym, ap, ◌∙◌, subst, refl, Some, true≢false, with_items_is, with_items, Pops, Contents, Queue, queues_at, array_pop, entries_of, pushes_of, Flat, flat_queues}
-use Rattle.fabric_core.proofs.FabricLaws.{no_entries, popped_sound, popped_queues, root_within, root_queue}
+use Rattle.std.specs.Prelude.{IsNone, IfNone, IfSome, ◌↔◌}
+use Rattle.fabric_core.proofs.Prelude.{ℕ, arith, ◌≡◌, List, [], length, ap, ◌∙◌, subst, with_items_is, with_items, Pops, Contents, queues_at, entries_of, pushes_of, spare_of, room_at, ArrayKeepsRoom, Flat, flat_queues, flat_room}
+use Rattle.embed_defs.specs.Family.{HasNoLessRoom}
+use Rattle.fabric_core.specs.Paths.{IsUnchanged}
+use Rattle.fabric_core.proofs.FabricLaws.{Popped, popped_none, popped_taken, popped_stays, popped_kept}
 use Rattle.fabric_core.proofs.flat.FlatFabricFabric.pop.Goals as goal
 
-pub index-requires : goal.index-requires
-index-requires c =
-    let f = c.self.inside in
-    omega (arith, root_within (λ (q : Contents). q.entries) f.arities.items f.queues.items (pushes_of f.queues.items) f.pushed c.self.invariant, f.queues.ok.0)
+back : (c : goal.After-slice_known-4-1) → (with_items c.self.inside.queues c.pop_along.new.queues).items ≡ c.pop_along.new.queues
+back c = with_items_is c.self.inside.queues c.pop_along.new.queues (omega (arith, c.pop_along.auto.queues, c.deref_mut.ensures.len))
 
-pub returns-then-len-eq0-clause-none : goal.returns-then-len-eq0-clause-none
-returns-then-len-eq0-clause-none c =
+popped : (c : goal.After-slice_known-4-1)
+    → Popped c.self.inside.arities.items (entries_of c.self.inside.queues.items) (entries_of (with_items c.self.inside.queues c.pop_along.new.queues).items) c.pop_along.result c.args.digits.now c.pop_along.new.digits c.args.ranks.now c.pop_along.new.ranks
+popped c =
     let f = c.self.inside in
-    let root : queues_at f.arities.items (entries_of f.queues.items) 0 1 0 [] ≡ c.index.result.now.entries
-    = root_queue (λ (q : Contents). q.entries) f.arities.items f.queues.items (pushes_of f.queues.items) f.pushed c.index.result.now c.self.invariant ∙ ap (λ (z : Contents). z.entries) (sym c.index.ensures) in
-    let none : c.index.result.now.entries ≡ [] = no_entries c.index.result.now.entries (sym c.len.ensures.length ∙ c.if-len-eq0.true) in
-    ((λ _. sym (ap (λ (v : Flat). flat_queues v []) c.self.view_is) ∙ root ∙ none), (λ _. refl))
+    let made : Popped c.deref.result.now (entries_of c.deref_mut.result.now) (entries_of c.pop_along.new.queues) c.pop_along.result c.args.digits.now c.pop_along.new.digits c.args.ranks.now c.pop_along.new.ranks
+    = record { none = c.pop_along.ensures.none; some = c.pop_along.ensures.popped } in
+    rw (back c) (subst (λ (z : List Contents). Popped f.arities.items (entries_of z) (entries_of c.pop_along.new.queues) c.pop_along.result c.args.digits.now c.pop_along.new.digits c.args.ranks.now c.pop_along.new.ranks) c.deref_mut.ensures.value
+    (subst (λ (z : List ℕ). Popped z (entries_of c.deref_mut.result.now) (entries_of c.pop_along.new.queues) c.pop_along.result c.args.digits.now c.pop_along.new.digits c.args.ranks.now c.pop_along.new.ranks) c.deref.ensures.value made))
 
-pub pop_along-requires-clause-some : goal.pop_along-requires-clause-some
-pop_along-requires-clause-some c none =
+pub invariant_of-self : goal.invariant_of-self
+invariant_of-self c =
     let f = c.self.inside in
-    let root : queues_at f.arities.items (entries_of f.queues.items) 0 1 0 [] ≡ c.index.result.now.entries
-    = root_queue (λ (q : Contents). q.entries) f.arities.items f.queues.items (pushes_of f.queues.items) f.pushed c.index.result.now c.self.invariant ∙ ap (λ (z : Contents). z.entries) (sym c.index.ensures) in
-    let here : queues_at f.arities.items (entries_of f.queues.items) 0 1 0 [] ≡ []
-    = sym (ap (λ (z : List ℕ). queues_at z (entries_of c.deref_mut.result.now) 0 1 0 []) c.deref.ensures.value
-    ∙ ap (λ (z : List Contents). queues_at f.arities.items (entries_of z) 0 1 0 []) c.deref_mut.ensures.value) ∙ none in
-    c.if-len-eq0.false (c.len.ensures.length ∙ ap (λ (q : Queue). length q) (sym root ∙ here))
-
-pub invariant_of-self-2 : goal.invariant_of-self-2
-invariant_of-self-2 c =
-    let f = c.self.inside in
-    let back = with_items_is f.queues c.pop_along.new.queues (omega (arith, c.pop_along.auto.queues, c.deref_mut.ensures.len)) in
-    popped_sound f.arities.items (entries_of f.queues.items) (entries_of (with_items f.queues c.pop_along.new.queues).items) (pushes_of f.queues.items) (pushes_of (with_items f.queues c.pop_along.new.queues).items) f.pushed c.pop_along.result c.pop_along.new.digits c.pop_along.new.ranks c.self.invariant
-    (sym (ap (λ (z : List ℕ). array_pop z (entries_of c.deref_mut.result.now) 0 1 0) c.deref.ensures.value
-    ∙ ap (λ (z : List Contents). array_pop f.arities.items (entries_of z) 0 1 0) c.deref_mut.ensures.value)
-    ∙ c.pop_along.ensures.popped
-    ∙ ap (λ (z : List Contents). Some (record { value = c.pop_along.result; digits = c.pop_along.new.digits; ranks = c.pop_along.new.ranks; left = entries_of z })) (sym back))
-    (ap (λ (z : List Contents). pushes_of z) back ∙ c.pop_along.ensures.pushes ∙ ap (λ (z : List Contents). pushes_of z) c.deref_mut.ensures.value)
+    popped_kept f.arities.items (entries_of f.queues.items) (entries_of (with_items f.queues c.pop_along.new.queues).items) (pushes_of f.queues.items) (pushes_of (with_items f.queues c.pop_along.new.queues).items) f.pushed c.pop_along.result c.args.digits.now c.pop_along.new.digits c.args.ranks.now c.pop_along.new.ranks c.self.invariant (popped c)
+    (ap (λ (z : List Contents). pushes_of z) (back c) ∙ c.pop_along.ensures.pushes ∙ ap (λ (z : List Contents). pushes_of z) c.deref_mut.ensures.value)
 
 pub returns-clause-none : goal.returns-clause-none
 returns-clause-none c =
     let f = c.self.inside in
-    let root : queues_at f.arities.items (entries_of f.queues.items) 0 1 0 [] ≡ c.index.result.now.entries
-    = root_queue (λ (q : Contents). q.entries) f.arities.items f.queues.items (pushes_of f.queues.items) f.pushed c.index.result.now c.self.invariant ∙ ap (λ (z : Contents). z.entries) (sym c.index.ensures) in (
-      (λ no. absurd (true≢false no)),
-      (λ none. absurd (c.if-len-eq0.false (c.len.ensures.length ∙ ap (λ (q : Queue). length q) (sym root ∙ ap (λ (v : Flat). flat_queues v []) c.self.view_is ∙ none)))),
-    )
+    subst (λ (v : Flat). IsNone c.pop_along.result ↔ (flat_queues v [] ≡ [])) c.self.view_is
+    (popped_none f.arities.items (entries_of f.queues.items) (entries_of (with_items f.queues c.pop_along.new.queues).items) c.pop_along.result c.args.digits.now c.pop_along.new.digits c.args.ranks.now c.pop_along.new.ranks (popped c))
 
 pub returns-clause-taken : goal.returns-clause-taken
 returns-clause-taken c =
     let f = c.self.inside in
-    let back = with_items_is f.queues c.pop_along.new.queues (omega (arith, c.pop_along.auto.queues, c.deref_mut.ensures.len)) in
-    subst (λ (v : Flat). Pops (length v.arities) (flat_queues v) c.pop_along.result c.pop_along.new.digits c.pop_along.new.ranks (queues_at f.arities.items (entries_of (with_items f.queues c.pop_along.new.queues).items) 0 1 0)) c.self.view_is
-    (popped_queues f.arities.items (entries_of f.queues.items) (entries_of (with_items f.queues c.pop_along.new.queues).items) (pushes_of f.queues.items) f.pushed c.pop_along.result c.pop_along.new.digits c.pop_along.new.ranks c.self.invariant
-    (sym (ap (λ (z : List ℕ). array_pop z (entries_of c.deref_mut.result.now) 0 1 0) c.deref.ensures.value
-    ∙ ap (λ (z : List Contents). array_pop f.arities.items (entries_of z) 0 1 0) c.deref_mut.ensures.value)
-    ∙ c.pop_along.ensures.popped
-    ∙ ap (λ (z : List Contents). Some (record { value = c.pop_along.result; digits = c.pop_along.new.digits; ranks = c.pop_along.new.ranks; left = entries_of z })) (sym back)))
+    subst (λ (v : Flat). IfSome c.pop_along.result (λ item. Pops (length v.arities) (flat_queues v) item c.pop_along.new.digits c.pop_along.new.ranks (queues_at f.arities.items (entries_of (with_items f.queues c.pop_along.new.queues).items) 0 1 0))) c.self.view_is
+    (popped_taken f.arities.items (entries_of f.queues.items) (entries_of (with_items f.queues c.pop_along.new.queues).items) (pushes_of f.queues.items) f.pushed c.pop_along.result c.args.digits.now c.pop_along.new.digits c.args.ranks.now c.pop_along.new.ranks c.self.invariant (popped c))
+
+pub returns-clause-stays : goal.returns-clause-stays
+returns-clause-stays c =
+    let f = c.self.inside in
+    subst (λ (v : Flat). IfNone c.pop_along.result (IsUnchanged (flat_queues v) (queues_at f.arities.items (entries_of (with_items f.queues c.pop_along.new.queues).items) 0 1 0) c.args.digits.now c.pop_along.new.digits c.args.ranks.now c.pop_along.new.ranks)) c.self.view_is
+    (popped_stays f.arities.items (entries_of f.queues.items) (entries_of (with_items f.queues c.pop_along.new.queues).items) c.pop_along.result c.args.digits.now c.pop_along.new.digits c.args.ranks.now c.pop_along.new.ranks (popped c))
+
+pub returns-clause-kept : goal.returns-clause-kept
+returns-clause-kept c =
+    let f = c.self.inside in
+    let kept : ArrayKeepsRoom f.arities.items (spare_of f.queues.items) (spare_of c.pop_along.new.queues)
+    = subst (λ (z : List Contents). ArrayKeepsRoom f.arities.items (spare_of z) (spare_of c.pop_along.new.queues)) c.deref_mut.ensures.value
+    (subst (λ (z : List ℕ). ArrayKeepsRoom z (spare_of c.deref_mut.result.now) (spare_of c.pop_along.new.queues)) c.deref.ensures.value c.pop_along.ensures.kept) in
+    subst (λ (v : Flat). HasNoLessRoom (flat_room v) (room_at f.arities.items (spare_of (with_items f.queues c.pop_along.new.queues).items) 0 1 0)) c.self.view_is (rw (back c) kept)

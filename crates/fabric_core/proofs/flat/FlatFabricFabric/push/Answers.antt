@@ -7,7 +7,7 @@ invariant_of-self c =
     let f = c.self.inside in
     let back = with_items_is f.queues c.push_along.new.queues (omega (arith, c.push_along.auto.queues, c.deref_mut.ensures.len)) in
     pushed_sound f.arities.items (entries_of f.queues.items) (entries_of (with_items f.queues c.push_along.new.queues).items) (pushes_of f.queues.items) (pushes_of (with_items f.queues c.push_along.new.queues).items) f.pushed c.args.digits.now c.args.ranks.now c.args.item c.self.invariant
-    (subst (λ (v : Flat). IsLeafAddress v.arities c.args.digits.now) (sym c.self.view_is) c.requires.leaf)
+    (subst (λ (v : Flat). IsLeafAddress v.arities c.args.digits.now) (sym c.self.view_is) c.requires.path.leaf)
     (ap (λ (z : List Contents). entries_of z) back ∙ c.push_along.ensures.entries
     ∙ ap (λ (z : List ℕ). array_push z (entries_of c.deref_mut.result.now) 0 1 0 c.args.digits.now c.args.ranks.now c.args.item) c.deref.ensures.value
     ∙ ap (λ (z : List Contents). array_push f.arities.items (entries_of z) 0 1 0 c.args.digits.now c.args.ranks.now c.args.item) c.deref_mut.ensures.value)
@@ -19,7 +19,7 @@ returns-clause-queues c b =
     let f = c.self.inside in
     let back = with_items_is f.queues c.push_along.new.queues (omega (arith, c.push_along.auto.queues, c.deref_mut.ensures.len)) in
     pushed_queues f.arities.items (entries_of f.queues.items) (entries_of (with_items f.queues c.push_along.new.queues).items) (pushes_of f.queues.items) f.pushed c.args.digits.now c.args.ranks.now c.args.item c.self.invariant
-    (subst (λ (v : Flat). IsLeafAddress v.arities c.args.digits.now) (sym c.self.view_is) c.requires.leaf)
+    (subst (λ (v : Flat). IsLeafAddress v.arities c.args.digits.now) (sym c.self.view_is) c.requires.path.leaf)
     (ap (λ (z : List Contents). entries_of z) back ∙ c.push_along.ensures.entries
     ∙ ap (λ (z : List ℕ). array_push z (entries_of c.deref_mut.result.now) 0 1 0 c.args.digits.now c.args.ranks.now c.args.item) c.deref.ensures.value
     ∙ ap (λ (z : List Contents). array_push f.arities.items (entries_of z) 0 1 0 c.args.digits.now c.args.ranks.now c.args.item) c.deref_mut.ensures.value) b

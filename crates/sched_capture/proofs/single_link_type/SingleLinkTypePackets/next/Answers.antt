@@ -1,8 +1,8 @@
 use Rattle.sched_capture.proofs.Prelude.{◌≡◌, Some, None, sym, option_map, other_link, captured_by, rest_of_link}
 use Rattle.outside_core.specs.declared.read_error.ReadError.TheVariants.{Fault}
 use Rattle.sched_capture.specs.CapturePackets.{resolved_of, given_by, contents_of}
-use Rattle.sched_capture.proofs.PacketsLeft.{Gives, gives, ends, is_over, none_known, is_read_error}
-use Rattle.sched_capture.proofs.SingleLinkTypePackets.{behind_ahead, first_next, next_alike, stops_at_other, at_end, stops_at_end, over_at_end}
+use Rattle.sched_capture.proofs.PacketsLeft.{Gives, gives, none_known, is_read_error}
+use Rattle.sched_capture.proofs.SingleLinkTypePackets.{behind_ahead, first_next, next_alike, stops_at_other, stops_at_end, over_at_end}
 use Rattle.sched_capture.proofs.single_link_type.SingleLinkTypePackets.next.Given.{Over}
 use Rattle.sched_capture.proofs.single_link_type.SingleLinkTypePackets.next.Goals as goal
 
@@ -18,11 +18,8 @@ first_gives g c =
     gives (resolved_of a) 0 (given_by a) (behind_ahead o.link (given_by a) (captured_by a) (Some p) left) (behind_ahead o.link (given_by a) (captured_by a) None left)
     o.link p (captured_by a) is.one (first_next (resolved_of a) (given_by a) o.link (captured_by a) p left is)
 
-pub returns-in-Some-clause-came : goal.returns-in-Some-clause-came
-returns-in-Some-clause-came g c = rw (sym c.in-Some.ensures.value, c.take.ensures.after) (λ _. (first_gives g c).came)
-
-pub returns-in-Some-clause-bytes : goal.returns-in-Some-clause-bytes
-returns-in-Some-clause-bytes g c = rw (sym c.in-Some.ensures.value) (λ _. (first_gives g c).bytes)
+pub returns-in-Some-clause-next : goal.returns-in-Some-clause-next
+returns-in-Some-clause-next g c = rw (sym c.in-Some.ensures.value, c.take.ensures.after) (λ _. (first_gives g c).packet)
 
 pub returns-in-Some-clause-known : goal.returns-in-Some-clause-known
 returns-in-Some-clause-known g c = rw (sym c.in-Some.ensures.value, c.take.ensures.after) (first_gives g c).known
@@ -43,25 +40,15 @@ next_gives g c =
     gives (resolved_of a) (given_by a) (given_by b) (option_map (rest_of_link o.link (given_by a)) old) (option_map (rest_of_link o.link (given_by b)) left)
     o.link p (captured_by b) given (next_alike (resolved_of a) (given_by a) (given_by b) o.link c.in-Ok-Some.link old left p (captured_by b) given c.if-link-self.true is)
 
-pub returns-in-Ok-Some-clause-came : goal.returns-in-Ok-Some-clause-came
-returns-in-Ok-Some-clause-came g c =
+pub returns-in-Ok-Some-clause-next : goal.returns-in-Ok-Some-clause-next
+returns-in-Ok-Some-clause-next g c =
     let gone : c.args.self.now.ahead ≡ None = sym c.in_default.ensures.value in
-    rw (gone, c.take.ensures.after, c.next_packet.ensures.policy) (λ _. (next_gives g c).came)
-
-pub returns-in-Ok-Some-clause-bytes : goal.returns-in-Ok-Some-clause-bytes
-returns-in-Ok-Some-clause-bytes g c =
-    let gone : c.args.self.now.ahead ≡ None = sym c.in_default.ensures.value in
-    rw (gone) (λ _. (next_gives g c).bytes)
+    rw (gone, c.take.ensures.after, c.next_packet.ensures.policy) (λ _. (next_gives g c).packet)
 
 pub returns-in-Ok-Some-clause-known : goal.returns-in-Ok-Some-clause-known
 returns-in-Ok-Some-clause-known g c =
     let gone : c.args.self.now.ahead ≡ None = sym c.in_default.ensures.value in
     rw (gone, c.take.ensures.after) (next_gives g c).known
-
-pub returns-in-Ok-Some-clause-given : goal.returns-in-Ok-Some-clause-given
-returns-in-Ok-Some-clause-given g c =
-    let gone : c.args.self.now.ahead ≡ None = sym c.in_default.ensures.value in
-    rw (gone, c.take.ensures.after) (rw c.in-Ok-Some.field-0-is at c.in-Ok-Some.ensures.given)
 
 -- ---- a packet of another link type
 pub returns-in-Ok-Some-2-clause-fault : goal.returns-in-Ok-Some-2-clause-fault
@@ -77,27 +64,6 @@ returns-in-Ok-Some-2-clause-fault g c =
     (rw c.in-Ok-Some.field-0-is at c.in-Ok-Some.ensures.next)))
 
 -- ---- the end
-pub returns-in-Ok-None-clause-none : goal.returns-in-Ok-None-clause-none
-returns-in-Ok-None-clause-none g c =
-    let o = c.args.self.now in
-    let a = o.arrivals in
-    let b = c.next_packet.new.self in
-    let e = c.in-Ok-None.ensures in
-    let old = contents_of a (g.S.Shelf.left c.args.source.now) in
-    let left = contents_of b (g.S.Shelf.left c.next_packet.new.source) in
-    let gone : c.args.self.now.ahead ≡ None = sym c.in_default.ensures.value in
-    rw (gone, c.take.ensures.after, c.next_packet.ensures.policy) (λ _. ends (resolved_of a) (given_by a) (given_by b) (option_map (rest_of_link o.link (given_by a)) old)
-    (option_map (rest_of_link o.link (given_by b)) left) (at_end None o.link (given_by a) old (rw c.in-Ok-None.field-0-is at e.ended).at)
-    (over_at_end o.link (given_by b) left (rw c.in-Ok-None.field-0-is at e.ended).over))
-
-pub returns-in-Ok-None-clause-over : goal.returns-in-Ok-None-clause-over
-returns-in-Ok-None-clause-over g c =
-    let o = c.args.self.now in
-    let b = c.next_packet.new.self in
-    let left = contents_of b (g.S.Shelf.left c.next_packet.new.source) in
-    rw (c.take.ensures.after) (λ _. is_over (resolved_of b) (given_by b) (option_map (rest_of_link o.link (given_by b)) left)
-    (over_at_end o.link (given_by b) left (rw c.in-Ok-None.field-0-is at c.in-Ok-None.ensures.ended).over))
-
 pub returns-in-Ok-None-clause-known : goal.returns-in-Ok-None-clause-known
 returns-in-Ok-None-clause-known g c =
     let o = c.args.self.now in

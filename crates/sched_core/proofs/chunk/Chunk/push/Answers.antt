@@ -1,7 +1,8 @@
-use Rattle.sched_core.proofs.Prelude.{arith, ◌≡◌, ap, ◌∙◌, sym, List, length, subst, Some, None, refl, ◌<◌, [], ◌∷◌, ◌≤◌, ◌++◌, get_or, is_some, true≢false, ◌-◌, slice_get, slice_get-get_or, packet_among, are_ordered, filled_among, place_behind, Slot, Chunk}
-use Rattle.sched_core.proofs.SlotLaws.{among-push, ordered-push, filled-push, ordered-in, ordered-out, filled-le, behind-last}
+use Rattle.sched_core.proofs.Prelude.{arith, ◌≡◌, ap, ◌∙◌, sym, List, length, subst, Some, None, refl, ◌<◌, [], ◌∷◌, ◌≤◌, ◌++◌, get_or, is_some, true, true≢false, ◌-◌, ◌%◌, slice_get, slice_get-get_or, packet_in, packet_among, are_ordered, filled_among, place_behind, Slot, Chunk}
+use Rattle.sched_core.proofs.SlotLaws.{if_same, if_other, split, among-push, ordered-push, filled-push, ordered-in, ordered-out, filled-le, behind-last}
+use Rattle.sched_core.proofs.ChunkLaws.{same-number}
 use Rattle.sched_core.proofs.chunk.Chunk.push.Goals as goal
-use Rattle.sched_core.proofs.chunk.Chunk.push.Goals.{After-push_reserved, in-Some+else-slot-last, in_default, then-len-capacity+in_ok-grow, else-len-capacity}
+use Rattle.sched_core.proofs.chunk.Chunk.push.Goals.{After-push_reserved, in-Some+else-place-last, in_default-last, then-len-capacity+in_ok-grow, else-len-capacity}
 
 -- ---- the position is after those of all slots
 last-some : (xs : List Slot) (s : Slot) → Some s ≡ slice_get xs (length xs - 1) → 0 < length xs
@@ -12,17 +13,27 @@ last-none : (xs : List Slot) → None ≡ slice_get xs (length xs - 1) → xs �
 last-none [] e = refl
 last-none (x ∷ xs) e = absurd (true≢false (sym (ap is_some (e ∙ slice_get-get_or (x ∷ xs) (length (x ∷ xs) - 1) x (omega arith)))))
 
-behind : (c : After-push_reserved) → place_behind 0 c.args.self.now.slots.items ≤ c.args.slot.place
+behind : (c : After-push_reserved) → place_behind 0 c.args.self.now.slots.items ≤ c.args.packet.now.number % 64
 behind c =
     let slots = c.args.self.now.slots.items in
     elim c.match-last.branch [
-      | in-Some+else-slot-last w ↦
+      | in-Some+else-place-last w ↦
           let last = w.in-Some.last.now in
           let there = last-some c.deref.result.now last w.in-Some.ensures.value in
           let item : last ≡ get_or slots (length slots - 1) last = subst (λ (xs : List Slot). last ≡ get_or xs (length xs - 1) last) c.deref.ensures.value w.in-Some.ensures.item.1 in
-          omega (arith, there, ap length c.deref.ensures.value, behind-last 0 slots (length slots - 1) last (omega (arith, there, ap length c.deref.ensures.value)), ap (λ (s : Slot). s.place) item, w.if-slot-last.false)
-      | in_default w ↦ omega (arith, ap (place_behind 0) (sym c.deref.ensures.value ∙ last-none c.deref.result.now w.in_default.ensures.value))
+          omega (arith, there, ap length c.deref.ensures.value, behind-last 0 slots (length slots - 1) last (omega (arith, there, ap length c.deref.ensures.value)), ap (λ (s : Slot). s.place) item, w.if-place-last.false)
+      | in_default-last w ↦ omega (arith, ap (place_behind 0) (sym c.deref.ensures.value ∙ last-none c.deref.result.now w.in_default-last.ensures.value))
     ]
+
+-- the slot of the last position
+pub returns-then-place-last-clause-added : goal.returns-then-place-last-clause-added
+returns-then-place-last-clause-added c =
+    let slots = c.args.self.now.slots.items in
+    let last = c.in-Some.last.now in
+    let there = last-some c.deref.result.now last c.in-Some.ensures.value in
+    let item : last ≡ get_or slots (length slots - 1) last = subst (λ (xs : List Slot). last ≡ get_or xs (length xs - 1) last) c.deref.ensures.value c.in-Some.ensures.item.1 in
+    let late = behind-last 0 slots (length slots - 1) last (omega (arith, there, ap length c.deref.ensures.value)) in
+    ((λ no. absurd (true≢false (sym no))), (λ fits. absurd (omega (arith, fits.1, late, ap (λ (s : Slot). s.place) item, c.if-place-last.true))))
 
 -- ---- there is room for the slot
 same : (c : After-push_reserved) → c.if-len-capacity.self.slots.items ≡ c.args.self.now.slots.items
@@ -31,29 +42,50 @@ same c = elim c.if-len-capacity.branch [
   | else-len-capacity w ↦ ap (λ (x : Chunk). x.slots.items) w.self-is
 ]
 
-more : (c : After-push_reserved) → c.push_reserved.new.self.items ≡ c.args.self.now.slots.items ++ c.args.slot ∷ []
-more c = c.push_reserved.ensures.items ∙ ap (λ (xs : List Slot). xs ++ c.args.slot ∷ []) (same c)
+abbrev slot : After-push_reserved → Slot
+slot c =
+    let p = c.args.packet.now in
+    record { filled = true; place = p.number % 64; version = p.flow.version; proto = p.flow.proto; dport = p.flow.dport; sport = p.flow.sport; source = c.in-Ok-Ok.source; target = c.in-Ok-Ok.target; len = p.len; class = p.class; moment = p.moment }
+
+-- the addresses are short
+addresses : (c : After-push_reserved) → (c.in-Ok-Ok.source ≡ c.args.packet.now.flow.source) × (c.in-Ok-Ok.target ≡ c.args.packet.now.flow.target)
+addresses c = (omega (arith, c.in-Ok-Ok.ensures), omega (arith, c.in-Ok-Ok.ensures'))
+
+more : (c : After-push_reserved) → c.push_reserved.new.self.items ≡ c.args.self.now.slots.items ++ slot c ∷ []
+more c = c.push_reserved.ensures.items ∙ ap (λ (xs : List Slot). xs ++ slot c ∷ []) (same c)
 
 filled_now : (c : After-push_reserved) → c.if-len-capacity.self.filled ≡ filled_among c.args.self.now.slots.items
 filled_now c = c.if-len-capacity.self.counted ∙ ap filled_among (same c)
 
 pub overflow_add-self : goal.overflow_add-self
 overflow_add-self c =
+    let t = (goal.at.overflow_add-self c).After-push_reserved in
     let chunk = c.args.self.now in
-    omega (arith, filled_now c, filled-le chunk.slots.items, chunk.slots.ok, chunk.slots.small)
+    omega (arith, filled_now t, filled-le chunk.slots.items, chunk.slots.ok, chunk.slots.small)
 
 -- ---- the slot is the last one
 pub invariant_of-self : goal.invariant_of-self
 invariant_of-self c =
+    let t = (goal.at.invariant_of-self c).After-push_reserved in
     let slots = c.args.self.now.slots.items in
-    let slot = c.args.slot in
     record {
-      ordered = ap (are_ordered 0) (more c) ∙ ordered-out 0 (slots ++ slot ∷ []) (ordered-push 0 slots slot (ordered-in 0 slots c.args.self.now.ordered) (behind c));
-      counted = omega (arith, ap filled_among (more c), filled-push slots slot c.requires.filled, filled_now c);
+      ordered = ap (are_ordered 0) (more t) ∙ ordered-out 0 (slots ++ slot t ∷ []) (ordered-push 0 slots (slot t) (ordered-in 0 slots c.args.self.now.ordered) (behind t));
+      counted = omega (arith, ap filled_among (more t), filled-push slots (slot t) refl, filled_now t);
     }
 
 pub returns-clause-ok : goal.returns-clause-ok
-returns-clause-ok c = λ n.
+returns-clause-ok c = λ n near.
     let t = (goal.at.returns-clause-ok c).After-push_reserved in
+    let p = c.args.packet.now in
     let slots = c.args.self.now.slots.items in
-    ap (λ (xs : List Slot). packet_among xs n) (more t) ∙ among-push 0 slots c.args.slot n (ordered-in 0 slots c.args.self.now.ordered) (behind t) c.requires.filled
+    let is : packet_in p.number (slot t) ≡ p = rw ((addresses t).0, (addresses t).1) refl in
+    ap (λ (xs : List Slot). packet_among xs n) (more t)
+    ∙ among-push 0 slots (slot t) n (ordered-in 0 slots c.args.self.now.ordered) (behind t) refl
+    ∙ split n p.number
+    (λ same. if_same (n % 64) (p.number % 64) (Some (packet_in n (slot t))) (packet_among slots n) (ap (λ z. z % 64) same) ∙ ap Some (ap (λ z. packet_in z (slot t)) same ∙ is) ∙ sym (if_same n p.number (Some p) (packet_among slots n) same))
+    (λ other. if_other (n % 64) (p.number % 64) (Some (packet_in n (slot t))) (packet_among slots n) (λ r. other (same-number n p.number near r)) ∙ sym (if_other n p.number (Some p) (packet_among slots n) other))
+
+pub returns-clause-added : goal.returns-clause-added
+returns-clause-added c =
+    let t = (goal.at.returns-clause-added c).After-push_reserved in
+    ((λ _. ((omega (arith, (addresses t).0), omega (arith, (addresses t).1)), behind t)), (λ _. refl))

@@ -1,50 +1,86 @@
-use Rattle.sched_core.proofs.Prelude.{arith, ap, ◌∙◌, sym, length, Some, ◌<◌, refl, None, get_or, false, ◌%◌, packet_in, packet_among, Slot}
-use Rattle.sched_core.proofs.SlotLaws.{split, if_same, if_other, none-place, filled-there, some-filled, filled-emptied, ordered-in, ordered-out, ordered-set, among-at, among-emptied}
+use Rattle.sched_core.proofs.Prelude.{arith, ◌≡◌, ap, ◌∙◌, sym, List, length, subst, Some, ◌<◌, ◌-◌, refl, None, get_or, if◌then◌else◌, ◌==◌, true, false, ◌%◌, packet_in, packet_among, stands_at, Slot}
+use Rattle.sched_core.proofs.SlotLaws.{split, if_same, if_other, none-place, stands-there, any-default, filled-there, some-filled, filled-emptied, ordered-in, ordered-out, ordered-set, at-least, elsewhere, among-at, among-nowhere, among-emptied}
 use Rattle.sched_core.proofs.chunk.Chunk.take.Goals as goal
+use Rattle.sched_core.proofs.chunk.Chunk.take.Goals.{After-index_mut}
 
 abbrev emptied : Slot → Slot
 emptied s = record { filled = false; place = s.place; version = s.version; proto = s.proto; sport = s.sport; dport = s.dport; source = s.source; target = s.target; class = s.class; len = s.len; moment = s.moment }
 
-pub returns-in_default-clause-rest : goal.returns-in_default-clause-rest
-returns-in_default-clause-rest c = λ n.
-    let slots = c.args.self.now.slots.items in
-    let m = c.args.number in
-    split (n % 64) (m % 64)
-    (λ same. none-place slots m n same c.in_default.ensures.none ∙ sym (if_same (n % 64) (m % 64) None (packet_among slots n) same))
-    (λ other. sym (if_other (n % 64) (m % 64) None (packet_among slots n) other))
+pub loop-i-init : goal.loop-i-init
+loop-i-init c =
+    let chunk = c.args.self.now in
+    let slots = chunk.slots.items in
+    record {
+      within = omega (arith, c.min-i.ensures, c.len.ensures, chunk.slots.ok);
+      same = refl;
+      behind = λ k d far within. elsewhere (c.args.number % 64) (get_or slots k d)
+          (omega (arith, at-least 0 slots k d (ordered-in 0 slots chunk.ordered) within, far, within, c.min-i.ensures, c.len.ensures, chunk.slots.ok));
+    }
+
+-- ---- the packet is in the slot
+within : (c : After-index_mut) → c.loop-i.i - 1 < length c.loop-i.self.slots.items
+within c = omega (arith, c.loop-i-test.true, c.loop-i.invariant.within)
+
+found : (c : After-index_mut) (d : Slot) → stands_at (c.args.number % 64) (get_or c.loop-i.self.slots.items (c.loop-i.i - 1) d) ≡ true
+found c d =
+    let slots = c.loop-i.self.slots.items in
+    let i = c.loop-i.i - 1 in
+    let slot = c.index-slot.result.now in
+    subst (λ (s : Slot). stands_at (c.args.number % 64) s ≡ true) (c.index-slot.ensures ∙ any-default slots i slot d (within c)) (stands-there (c.args.number % 64) slot (omega (arith, c.if-slot-place.true)) c.if-slot.true)
 
 pub overflow_sub-self : goal.overflow_sub-self
 overflow_sub-self c =
-    let chunk = c.args.self.now in
+    let t = (goal.at.overflow_sub-self c).After-index_mut in
+    let chunk = c.loop-i.self in
     let slots = chunk.slots.items in
-    let i = c.in-Some.i in
+    let i = c.loop-i.i - 1 in
     let slot = c.index_mut.result.now in
-    let within : i < length slots = omega (arith, c.in-Some.ensures.within, chunk.slots.ok) in
-    omega (arith, chunk.counted, some-filled slots i slot within (filled-there (c.args.number % 64) (get_or slots i slot) (c.in-Some.ensures.found slot)))
+    omega (arith, chunk.counted, some-filled slots i slot (within t) (filled-there (c.args.number % 64) (get_or slots i slot) (found t slot)))
 
 pub invariant_of-self : goal.invariant_of-self
 invariant_of-self c =
-    let chunk = c.args.self.now in
+    let t = (goal.at.invariant_of-self c).After-index_mut in
+    let chunk = c.loop-i.self in
     let slots = chunk.slots.items in
-    let i = c.in-Some.i in
+    let i = c.loop-i.i - 1 in
     let slot = c.index_mut.result.now in
-    let within : i < length slots = omega (arith, c.in-Some.ensures.within, chunk.slots.ok) in
     record {
-      ordered = ordered-out 0 _ (ordered-set 0 slots i slot (emptied slot) (ordered-in 0 slots chunk.ordered) within (ap (λ (s : Slot). s.place) c.index_mut.ensures.value));
-      counted = omega (arith, chunk.counted, filled-emptied slots i slot (emptied slot) within refl (filled-there (c.args.number % 64) (get_or slots i slot) (c.in-Some.ensures.found slot)));
+      ordered = ordered-out 0 _ (ordered-set 0 slots i slot (emptied slot) (ordered-in 0 slots chunk.ordered) (within t) (ap (λ (s : Slot). s.place) c.index_mut.ensures.value));
+      counted = omega (arith, chunk.counted, filled-emptied slots i slot (emptied slot) (within t) refl (filled-there (c.args.number % 64) (get_or slots i slot) (found t slot)));
     }
 
+pub returns-then-slot-clause-value : goal.returns-then-slot-clause-value
+returns-then-slot-clause-value c =
+    let t = (goal.at.returns-then-slot-clause-value c).After-index_mut in
+    let m = c.args.number in
+    let slots = c.loop-i.self.slots.items in
+    let slot = c.index-slot.result.now in
+    ap (λ (l : List Slot). packet_among l m) (sym c.loop-i.invariant.same)
+    ∙ among-at 0 slots (c.loop-i.i - 1) slot m (ordered-in 0 slots c.loop-i.self.ordered) (within t) (found t slot)
+    ∙ sym (ap Some (c.put_packet.ensures ∙ ap (packet_in m) c.index-slot.ensures))
+
+pub returns-then-slot-clause-rest : goal.returns-then-slot-clause-rest
+returns-then-slot-clause-rest c = λ n.
+    let t = (goal.at.returns-then-slot-clause-rest c).After-index_mut in
+    let m = c.args.number in
+    let slots = c.loop-i.self.slots.items in
+    let slot = c.index_mut.result.now in
+    among-emptied 0 slots (c.loop-i.i - 1) slot (emptied slot) m n (ordered-in 0 slots c.loop-i.self.ordered) (within t) refl (found t slot)
+    ∙ ap (λ (l : List Slot). if n % 64 == m % 64 then None else packet_among l n) c.loop-i.invariant.same
+
+-- ---- no slot has it
 pub returns-clause-value : goal.returns-clause-value
 returns-clause-value c =
-    let chunk = c.args.self.now in
-    let slots = chunk.slots.items in
-    let slot = c.index.result.now in
-    among-at 0 slots c.in-Some.i slot c.args.number (ordered-in 0 slots chunk.ordered) (omega (arith, c.in-Some.ensures.within, chunk.slots.ok)) (c.in-Some.ensures.found slot)
-    ∙ sym (ap Some (c.put_packet.ensures ∙ ap (packet_in c.args.number) c.index.ensures))
+    let m = c.args.number in
+    let slots = c.loop-i.self.slots.items in
+    ap (λ (l : List Slot). packet_among l m) (sym c.loop-i.invariant.same) ∙ among-nowhere slots m (λ k d within. c.loop-i.invariant.behind k d (omega (arith, c.loop-i-test.false)) within)
 
 pub returns-clause-rest : goal.returns-clause-rest
 returns-clause-rest c = λ n.
-    let chunk = c.args.self.now in
-    let slots = chunk.slots.items in
-    let slot = c.index_mut.result.now in
-    among-emptied 0 slots c.in-Some.i slot (emptied slot) c.args.number n (ordered-in 0 slots chunk.ordered) (omega (arith, c.in-Some.ensures.within, chunk.slots.ok)) refl (c.in-Some.ensures.found slot)
+    let m = c.args.number in
+    let slots = c.loop-i.self.slots.items in
+    let old = c.args.self.now.slots.items in
+    let none = among-nowhere slots m (λ k d within. c.loop-i.invariant.behind k d (omega (arith, c.loop-i-test.false)) within) in
+    split (n % 64) (m % 64)
+    (λ same. none-place slots m n same none ∙ sym (if_same (n % 64) (m % 64) None (packet_among old n) same))
+    (λ other. ap (λ (l : List Slot). packet_among l n) c.loop-i.invariant.same ∙ sym (if_other (n % 64) (m % 64) None (packet_among old n) other))

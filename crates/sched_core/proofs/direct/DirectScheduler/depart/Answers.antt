@@ -6,14 +6,14 @@ use Rattle.sched_core.proofs.direct.DirectScheduler.depart.Goals as goal
 pub pop-requires : goal.pop-requires
 pop-requires c =
     let policy : Policy = policy_in c.args.self.now.own in
-    let r = c.requires.stands in
+    let r = c.requires.can.stands in
     let levels : depth c.args.under.now.tree ≡ depth policy.tree
     = ap (λ (t : SourceTree). depth t) (sym r.stood.tree) ∙ sym (depth-topology r.state.tree) ∙ ap (λ (t : Topology). depth t) (topology_of-same r.state.tree policy.tree r.sound.shape) ∙ depth-topology policy.tree in
-    record { room = omega (arith, levels, c.requires.room) }
+    record { room = omega (arith, levels, c.requires.can.room) }
 
 pub release-requires-clause-stands : goal.release-requires-clause-stands
 release-requires-clause-stands c =
-    let r = c.requires.stands in
+    let r = c.requires.can.stands in
     record {
       state = r.state;
       sound = r.sound;
@@ -36,16 +36,13 @@ returns-in-None-clause-state c = λ s sound stood.
       pushes = c.pop.ensures.pushes ∙ stood.pushes ∙ sym c.count_empty_departure.ensures.pushes;
     }
 
-pub returns-in-None-clause-value : goal.returns-in-None-clause-value
-returns-in-None-clause-value c = λ s sound stood.
+pub returns-in-None-clause-departs : goal.returns-in-None-clause-departs
+returns-in-None-clause-departs c = λ s sound stood.
     let policy : Policy = policy_in c.args.self.now.own in
     let empty : size s.tree ≡ 0 = ap (λ (t : SourceTree). size t) stood.tree ∙ c.in-None.ensures.empty.0 refl in
     let nothing : leaver s ≡ None = (leaver-none policy s sound).1 empty in
-    rw nothing refl
-
-pub returns-in-None-clause-taken : goal.returns-in-None-clause-taken
-returns-in-None-clause-taken c = λ s sound stood.
-    let policy : Policy = policy_in c.args.self.now.own in
-    let empty : size s.tree ≡ 0 = ap (λ (t : SourceTree). size t) stood.tree ∙ c.in-None.ensures.empty.0 refl in
-    let nothing : leaver s ≡ None = (leaver-none policy s sound).1 empty in
-    rw nothing tt
+    record {
+      value = rw nothing refl;
+      none = ((λ _. empty), (λ _. refl));
+      taken = rw nothing tt;
+    }

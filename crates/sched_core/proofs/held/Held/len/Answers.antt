@@ -3,7 +3,8 @@ use Rattle.std.specs.Cmp.{nat_eq_equiv}
 use Rattle.std.proofs.lemmas.Map.Entries.{length-keys_of}
 use Rattle.std.proofs.lemmas.Map.Made.{is_some-lookup}
 use Rattle.std.proofs.lemmas.Map.Views.{Contains-from_any, list_any-from_Contains, exact_unsigned_eq}
-use Rattle.sched_core.specs.Windows.{packet_at, numbers_of}
+use Rattle.sched_core.specs.Chunks.{packet_from}
+use Rattle.sched_core.specs.Windows.{numbers_of}
 use Rattle.sched_core.specs.Held.{held_at, numbers_in}
 use Rattle.sched_core.proofs.NumberLaws.{any-found, distinct-below}
 use Rattle.sched_core.proofs.HeldNumbers.{is_some-or_stray}
@@ -16,7 +17,7 @@ returns-clause-len c =
     omega (arith, c.filled.ensures.numbers, c.len.ensures.len, length-keys_of h.strays.entries, length-append (numbers_of h.window) (keys h.strays))
 
 pub returns-clause-numbers : goal.returns-clause-numbers
-unfolding numbers_in numbers_of held_at packet_at
+unfolding numbers_in numbers_of held_at packet_from
 returns-clause-numbers c =
     let h = c.args.self.now in
     let w = h.window in

@@ -1,11 +1,11 @@
 use Rattle.sched_core.proofs.Prelude.{ap, ◌∙◌, sym, Some, Option, is_some, nat_eq, true≢false, get, Packet, or_stray}
-use Rattle.sched_core.specs.Windows.{packet_at}
+use Rattle.sched_core.specs.Chunks.{packet_from}
 use Rattle.sched_core.specs.Held.{held_at}
 use Rattle.sched_core.proofs.SlotLaws.{split, if_same, if_other}
 use Rattle.sched_core.proofs.held.Held.move_outliers.Goals as goal
 
 pub put_stray-requires : goal.put_stray-requires
-unfolding packet_at
+unfolding packet_from
 put_stray-requires c = record {
   before = λ far. absurd (true≢false (sym (ap is_some c.in-Some.ensures) ∙ ap is_some (c.loop-packet.self.window.behind c.in-Some.packet.number far)));
 }

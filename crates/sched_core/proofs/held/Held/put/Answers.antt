@@ -1,5 +1,6 @@
 use Rattle.sched_core.proofs.Prelude.{arith, ◌≡◌, ap, ◌∙◌, sym, ℕ, Some, None, ◌<◌, refl, Option, ◌≤◌, is_some, IsSome, if◌then◌else◌, nat_eq, ◌==◌, Bool, ap₂, ◌&&◌, ◌^◌, err_from_is_err_and, on_ok_weaker, on_err_weaker, get, Packet, or_stray}
 use Rattle.sched_core.specs.declared.held.Held.{Held}
+use Rattle.sched_core.specs.Chunks.{packet_from}
 use Rattle.sched_core.specs.Windows.{packet_at}
 use Rattle.sched_core.specs.Held.{held_at}
 use Rattle.sched_core.proofs.SlotLaws.{split}
@@ -22,7 +23,7 @@ apart_now c n some = c.if-is_sparse.self.apart n (sym (ap is_some (c.stretch.ens
 
 -- nothing was there under the number
 none_there : (c : After-stretch) → (packet_at c.stretch.new.self c.args.packet.now.number ≡ None) × (get nat_eq c.if-is_sparse.self.strays c.args.packet.now.number ≡ None)
-unfolding held_at packet_at
+unfolding held_at packet_from
 none_there c =
     let old = c.args.self.now in
     let k = c.args.packet.now.number in

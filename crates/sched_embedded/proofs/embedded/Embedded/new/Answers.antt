@@ -6,17 +6,17 @@ use Rattle.sched_embedded.proofs.embedded.Embedded.new.Goals as goal
 
 pub new-requires-2 : goal.new-requires-2
 new-requires-2 g c =
-    record { laid = embedding-laid (topology_of c.args.policy.now.policy.tree) c.args.map c.args.target.now.arities c.requires.map_shape c.requires.embedding }
+    record { laid = embedding-laid (topology_of c.args.policy.now.policy.tree) c.args.map c.args.target.now.arities c.requires.placed.map_shape c.requires.placed.embedding }
 
 pub invariant_of-result : goal.invariant_of-result
 invariant_of-result g c = record {
-  few = (omega (arith, c.requires.pushes, c.pushes.ensures, c.in_ok-configure.ensures.pushed), omega (arith, c.requires.pops, c.pops.ensures, c.in_ok-configure.ensures.popped));
+  few = (omega (arith, c.requires.few.pushes, c.pushes.ensures, c.in_ok-configure.ensures.pushed), omega (arith, c.requires.few.pops, c.pops.ensures, c.in_ok-configure.ensures.popped));
   lanes_lead = subst (λ (m : Tree Address). HasLanes m (policy_in c.in_ok-own.own) c.in_ok-lanes.lanes.items) (sym c.in_ok-embedding.ensures.images)
       (subst (λ (p : Policy). HasLanes c.args.map p c.in_ok-lanes.lanes.items) (sym c.in_ok-own.ensures.policy) c.in_ok-lanes.ensures.lanes);
   leaves = subst (λ (l : Laid). MapsToLeaves l.images l.arities)
       (sym (same_laid c.in_ok-embedding.embedding c.args.map c.args.target.now.arities c.in_ok-embedding.ensures.images c.in_ok-embedding.ensures.arities))
-      (embedding-laid (topology_of c.args.policy.now.policy.tree) c.args.map c.args.target.now.arities c.requires.map_shape c.requires.embedding).leaves;
-  shape = ap (λ (p : Policy). topology_of p.tree) c.in_ok-own.ensures.policy ∙ topology-same (topology_of c.args.policy.now.policy.tree) c.args.map c.requires.map_shape
+      (embedding-laid (topology_of c.args.policy.now.policy.tree) c.args.map c.args.target.now.arities c.requires.placed.map_shape c.requires.placed.embedding).leaves;
+  shape = ap (λ (p : Policy). topology_of p.tree) c.in_ok-own.ensures.policy ∙ topology-same (topology_of c.args.policy.now.policy.tree) c.args.map c.requires.placed.map_shape
       ∙ ap (λ (m : Tree Address). topology_of m) (sym c.in_ok-embedding.ensures.images);
 }
 
@@ -25,8 +25,8 @@ returns-clause-stands g c = record {
   own = c.in_ok-own.ensures.start;
   shape = c.in_ok-configure.ensures.shaped ∙ c.arities.ensures.arities;
   lifted = subst (λ (m : Tree Address). IsLift (empty_tree (topology_of c.args.policy.now.policy.tree)) (image_map m) (g.F.Fabric.queues c.configure.new.self)) (sym c.in_ok-embedding.ensures.images)
-      (empty-lifted (topology_of c.args.policy.now.policy.tree) c.args.map (length c.args.target.now.arities) (g.F.Fabric.queues c.configure.new.self) c.requires.map_shape
-      (good_map c.args.target.now.arities (topology_of c.args.policy.now.policy.tree) c.args.map c.requires.map_shape c.requires.embedding) c.in_ok-configure.ensures.emptied);
+      (empty-lifted (topology_of c.args.policy.now.policy.tree) c.args.map (length c.args.target.now.arities) (g.F.Fabric.queues c.configure.new.self) c.requires.placed.map_shape
+      (good_map c.args.target.now.arities (topology_of c.args.policy.now.policy.tree) c.args.map c.requires.placed.map_shape c.requires.placed.embedding) c.in_ok-configure.ensures.emptied);
   pushes = omega (arith, c.pushes.ensures, c.in_ok-own.ensures.pushes);
   pops = omega (arith, c.pops.ensures, c.in_ok-own.ensures.departures);
 }
@@ -34,4 +34,4 @@ returns-clause-stands g c = record {
 pub class_lanes-requires-clause-good : goal.class_lanes-requires-clause-good
 class_lanes-requires-clause-good g c =
     subst (λ (h : ℕ). IsGoodMap h c.args.map) (sym c.len.ensures)
-    (good_map c.args.target.now.arities (topology_of c.args.policy.now.policy.tree) c.args.map c.requires.map_shape c.requires.embedding)
+    (good_map c.args.target.now.arities (topology_of c.args.policy.now.policy.tree) c.args.map c.requires.placed.map_shape c.requires.placed.embedding)

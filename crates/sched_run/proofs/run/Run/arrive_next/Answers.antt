@@ -8,34 +8,34 @@ use Rattle.sched_run.proofs.run.Run.arrive_next.Goals as goal
 pub make_arrival-requires-clause-stands : goal.make_arrival-requires-clause-stands
 make_arrival-requires-clause-stands g c =
     let one = c.requires.stands in
-    let number = c.in-Ok-true.ensures.number c.in-Ok-true.field-0-test in
-    let sendable = subst (λ (q : Policy). IsSendable q c.next.new.packet) c.requires.feeds.packets (c.in-Ok-true.ensures.sendable c.in-Ok-true.field-0-test) in
+    let number = (c.in-Ok-true.ensures.next c.in-Ok-true.field-0-test).number in
+    let sendable = subst (λ (q : Policy). IsSendable q c.next.new.packet) c.requires.feeds.packets (c.in-Ok-true.ensures.next c.in-Ok-true.field-0-test).sendable in
     record { state = one.state; sound = one.sound; stood = one.stood; has = can_arrive (g.C.Scheduler.policy c.args.self.now.scheduler) one.state c.next.new.packet _ number sendable one.has }
 
 pub returns-in_err-make_arrival-in-Ok-true-clause-err : goal.returns-in_err-make_arrival-in-Ok-true-clause-err
 returns-in_err-make_arrival-in-Ok-true-clause-err g c =
     let p = err_from_is_err_and c.from_residual.result c.from_residual.ensures.1 in
-    let number = c.in-Ok-true.ensures.number c.in-Ok-true.field-0-test in
-    let sendable = subst (λ (q : Policy). IsSendable q c.next.new.packet) c.requires.feeds.packets (c.in-Ok-true.ensures.sendable c.in-Ok-true.field-0-test) in
-    let known = c.in-Ok-true.ensures.bytes c.in-Ok-true.field-0-test in
+    let number = (c.in-Ok-true.ensures.next c.in-Ok-true.field-0-test).number in
+    let sendable = subst (λ (q : Policy). IsSendable q c.next.new.packet) c.requires.feeds.packets (c.in-Ok-true.ensures.next c.in-Ok-true.field-0-test).sendable in
+    let known = (c.in-Ok-true.ensures.next c.in-Ok-true.field-0-test).bytes in
     rw (p.1) (record {
       packets = c.next.new.packet ∷ [];
       count = omega arith;
-      first = one_first _ _ (c.next.new.packet ∷ []) (c.in-Ok-true.ensures.came c.in-Ok-true.field-0-test);
+      first = one_first _ _ (c.next.new.packet ∷ []) (c.in-Ok-true.ensures.next c.in-Ok-true.field-0-test).came;
       stop = stops_so g.C.Scheduler (heard_gives g.W.Recorder (IsCapturedAs c.next.new.packet c.captured.result.now) (g.P.Packets.captures c.args.packets.now c.args.source.now) (λ bytes are. known bytes are ∙ sym c.captured.ensures)) (g.C.Scheduler.policy c.args.self.now.scheduler)
           (Arrive c.next.new.packet ∷ []) _ _ _ _ (c.in_err-make_arrival-in-Ok-true.ensures.err _ (record { numbered = (number, tt); sendable = (sendable, tt) }));
     })
 
 pub returns-in_ok-make_arrival-in-Ok-true-clause-ok : goal.returns-in_ok-make_arrival-in-Ok-true-clause-ok
 returns-in_ok-make_arrival-in-Ok-true-clause-ok g c =
-    let number = c.in-Ok-true.ensures.number c.in-Ok-true.field-0-test in
-    let sendable = subst (λ (q : Policy). IsSendable q c.next.new.packet) c.requires.feeds.packets (c.in-Ok-true.ensures.sendable c.in-Ok-true.field-0-test) in
-    let given = rw c.in-Ok-true.field-0-test at c.in-Ok-true.ensures.given in
-    let known = c.in-Ok-true.ensures.bytes c.in-Ok-true.field-0-test in
+    let number = (c.in-Ok-true.ensures.next c.in-Ok-true.field-0-test).number in
+    let sendable = subst (λ (q : Policy). IsSendable q c.next.new.packet) c.requires.feeds.packets (c.in-Ok-true.ensures.next c.in-Ok-true.field-0-test).sendable in
+    let given = rw c.in-Ok-true.field-0-test at c.in-Ok-true.ensures.moves.given in
+    let known = (c.in-Ok-true.ensures.next c.in-Ok-true.field-0-test).bytes in
     record {
       packets = c.next.new.packet ∷ [];
       count = refl;
-      came = c.in-Ok-true.ensures.came c.in-Ok-true.field-0-test;
+      came = (c.in-Ok-true.ensures.next c.in-Ok-true.field-0-test).came;
       made = makes_so g.C.Scheduler (heard_gives g.W.Recorder (IsCapturedAs c.next.new.packet c.captured.result.now) (g.P.Packets.captures c.args.packets.now c.args.source.now) (λ bytes are. known bytes are ∙ sym c.captured.ensures)) (g.C.Scheduler.policy c.args.self.now.scheduler)
           (Arrive c.next.new.packet ∷ []) _ _ (rw given (c.in_ok-make_arrival-in-Ok-true.ensures.ok _ (record { numbered = (number, tt); sendable = (sendable, tt) })));
     }
@@ -44,7 +44,7 @@ pub returns-in-Ok-false-clause-ok : goal.returns-in-Ok-false-clause-ok
 returns-in-Ok-false-clause-ok g c = record {
   packets = [];
   count = omega arith;
-  came = (c.event.ensures, c.in-Ok-false.ensures.none c.in-Ok-false.field-0-test, c.in-Ok-false.ensures.over c.in-Ok-false.field-0-test);
+  came = (refl, (c.in-Ok-false.ensures.ended c.in-Ok-false.field-0-test).none, (c.in-Ok-false.ensures.ended c.in-Ok-false.field-0-test).over);
   made = makes_none g.C.Scheduler (heard g.W.Recorder (g.P.Packets.captures c.args.packets.now c.args.source.now)) (heard-joined g.W.Recorder g.met.W.Recorder.joined (g.P.Packets.captures c.args.packets.now c.args.source.now)) (g.C.Scheduler.policy c.args.self.now.scheduler) _ _ _ _ _ _ _ _;
 }
 

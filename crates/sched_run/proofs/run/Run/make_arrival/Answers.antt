@@ -10,12 +10,12 @@ pub returns-in_err-arrival-clause-err : goal.returns-in_err-arrival-clause-err
 returns-in_err-arrival-clause-err g c =
     let p = err_from_is_err_and c.from_residual.result c.from_residual.ensures.1 in
     let S = g.C.Scheduler in
-    let pushes : S.pushes c.arrive.new.self ≡ S.pushes c.args.self.now.scheduler = omega (arith, c.in_err-arrival.ensures.pushes) in
+    let pushes : S.pushes c.arrive.new.self ≡ S.pushes c.args.self.now.scheduler = omega (arith, c.in_err-arrival.ensures.counts.pushes) in
     rw (p.1) (λ given next. record {
       next = next;
       stopped = λ s sound stood below. record {
         leaves = made_some_none S (S.policy c.args.self.now.scheduler) (Arrive c.args.packet.now ∷ []) s (c.in_err-arrival.ensures.state s sound stood).0
-            pushes c.in_err-arrival.ensures.departures c.in_err-arrival.ensures.kept.origin c.in_err-arrival.ensures.spilled;
+            pushes c.in_err-arrival.ensures.counts.departures c.in_err-arrival.ensures.kept.origin c.in_err-arrival.ensures.spilled;
         cut = cut_none S (heard_with g.W.Recorder c.args.packet.now c.args.captured.now) (heard-joined g.W.Recorder g.met.W.Recorder.joined (IsCapturedAs c.args.packet.now c.args.captured.now)) (S.policy c.args.self.now.scheduler) _ (Arrive c.args.packet.now ∷ []) s c.args.self.now.recorder (g.K.Sink.written c.args.sink.now);
       };
     })
@@ -44,7 +44,7 @@ arrived-requires-clause-leaf g c =
     let policy = g.C.Scheduler.policy c.args.self.now.scheduler in
     let at = arrives policy c.args.packet.now r.state c.requires.set.accepted r.has in
     let a = answer_pushed policy c.args.packet.now r.state c.in-Pushed.leaf (rw c.in-Pushed.is at (c.in_ok-arrival.ensures.answer r.state r.sound r.stood)) in
-    let named = named_leaf policy (g.N.NodeNames.policy c.args.self.now.names.now) (class_of policy c.args.packet.now).leaf c.in-Pushed.leaf c.name-name.result.now c.requires.set.names at a.leaf_is c.name-name.ensures.name in
+    let named = named_leaf policy (g.N.NodeNames.policy c.args.self.now.names) (class_of policy c.args.packet.now).leaf c.in-Pushed.leaf c.name-name.result.now c.requires.set.names at a.leaf_is c.name-name.ensures.name in
     subst (λ (n : List ℕ). length n ≤ 64) (sym named) at.name
 
 pub arrived-requires-clause-few : goal.arrived-requires-clause-few
@@ -61,7 +61,7 @@ dropped-requires-clause-leaf g c =
     let policy = g.C.Scheduler.policy c.args.self.now.scheduler in
     let at = arrives policy c.args.packet.now r.state c.requires.set.accepted r.has in
     let a = answer_dropped policy c.args.packet.now r.state c.in-Dropped.leaf (rw c.in-Dropped.is at (c.in_ok-arrival.ensures.answer r.state r.sound r.stood)) in
-    let named = named_leaf policy (g.N.NodeNames.policy c.args.self.now.names.now) (class_of policy c.args.packet.now).leaf c.in-Dropped.leaf c.name-name-in-Dropped.result.now c.requires.set.names at a.leaf_is c.name-name-in-Dropped.ensures.name in
+    let named = named_leaf policy (g.N.NodeNames.policy c.args.self.now.names) (class_of policy c.args.packet.now).leaf c.in-Dropped.leaf c.name-name-in-Dropped.result.now c.requires.set.names at a.leaf_is c.name-name-in-Dropped.ensures.name in
     subst (λ (n : List ℕ). length n ≤ 64) (sym named) at.name
 
 pub returns-in_err-arrived-in-Pushed-clause-err : goal.returns-in_err-arrived-in-Pushed-clause-err
@@ -72,15 +72,15 @@ returns-in_err-arrived-in-Pushed-clause-err g c =
     let at = arrives policy c.args.packet.now r.state c.requires.set.accepted r.has in
     let e = c.in_ok-arrival.ensures in
     let first = answer_pushed policy c.args.packet.now r.state c.in-Pushed.leaf (rw c.in-Pushed.is at (e.answer r.state r.sound r.stood)) in
-    let named = named_leaf policy (g.N.NodeNames.policy c.args.self.now.names.now) (class_of policy c.args.packet.now).leaf c.in-Pushed.leaf c.name-name.result.now c.requires.set.names at first.leaf_is c.name-name.ensures.name in
+    let named = named_leaf policy (g.N.NodeNames.policy c.args.self.now.names) (class_of policy c.args.packet.now).leaf c.in-Pushed.leaf c.name-name.result.now c.requires.set.names at first.leaf_is c.name-name.ensures.name in
     let ranks = rw c.in-Pushed.is at e.ranks in
-    let cut = rw c.event-event.ensures at c.in_err-arrived-in-Pushed.ensures.cut in
+    let cut = c.in_err-arrived-in-Pushed.ensures.cut in
     rw (p.1) (λ given next. record {
       next = next;
       stopped = λ s sound stood below.
           let a = answer_pushed policy c.args.packet.now s c.in-Pushed.leaf (rw c.in-Pushed.is at (e.answer s sound stood)) in
           record {
-            leaves = made_all g.C.Scheduler policy (Arrive c.args.packet.now ∷ []) (made_arrival g.C.Scheduler policy c.in_ok-arrival.arrival (e.answer s sound stood) (e.state s sound stood) e.pushes e.departures e.kept.origin (e.spilled s sound stood));
+            leaves = made_all g.C.Scheduler policy (Arrive c.args.packet.now ∷ []) (made_arrival g.C.Scheduler policy c.in_ok-arrival.arrival (e.answer s sound stood) (e.state s sound stood) e.counts.pushes e.counts.departures e.kept.origin (e.spilled s sound stood));
             cut = λ bytes h. subst (λ (os : List Outcome). g.W.Recorder.cuts bytes c.args.self.now.recorder (g.K.Sink.written c.args.sink.now) policy (event_of c.args.self.now.tally) os (g.K.Sink.written c.arrived.new.sink))
                 (outcome_pushed policy c.args.packet.now s c.ranks.result.now a.fullness (c.ranks.ensures.ranks ∙ ranks s sound stood))
                 (cut bytes policy (class_of policy c.args.packet.now).leaf h named);
@@ -94,16 +94,16 @@ returns-in_ok-arrived-in-Pushed-clause-ok g c =
     let at = arrives policy c.args.packet.now r.state c.requires.set.accepted r.has in
     let e = c.in_ok-arrival.ensures in
     let first = answer_pushed policy c.args.packet.now r.state c.in-Pushed.leaf (rw c.in-Pushed.is at (e.answer r.state r.sound r.stood)) in
-    let named = named_leaf policy (g.N.NodeNames.policy c.args.self.now.names.now) (class_of policy c.args.packet.now).leaf c.in-Pushed.leaf c.name-name.result.now c.requires.set.names at first.leaf_is c.name-name.ensures.name in
+    let named = named_leaf policy (g.N.NodeNames.policy c.args.self.now.names) (class_of policy c.args.packet.now).leaf c.in-Pushed.leaf c.name-name.result.now c.requires.set.names at first.leaf_is c.name-name.ensures.name in
     let ranks = rw c.in-Pushed.is at e.ranks in
-    let told = rw c.event-event.ensures at c.in_ok-arrived-in-Pushed.ensures.ok in
+    let told = c.in_ok-arrived-in-Pushed.ensures.ok in
     λ given next. makes_pushed g.C.Scheduler (heard_with g.W.Recorder c.args.packet.now c.args.captured.now) policy c.args.packet.now _ _ next
     (λ s sound stood below. (answer_pushed policy c.args.packet.now s c.in-Pushed.leaf (rw c.in-Pushed.is at (e.answer s sound stood))).fullness)
     refl refl refl refl
     (λ s sound stood below.
     let a = answer_pushed policy c.args.packet.now s c.in-Pushed.leaf (rw c.in-Pushed.is at (e.answer s sound stood)) in
     record {
-      leaves = made_arrival g.C.Scheduler policy c.in_ok-arrival.arrival (e.answer s sound stood) (e.state s sound stood) e.pushes e.departures e.kept.origin (e.spilled s sound stood);
+      leaves = made_arrival g.C.Scheduler policy c.in_ok-arrival.arrival (e.answer s sound stood) (e.state s sound stood) e.counts.pushes e.counts.departures e.kept.origin (e.spilled s sound stood);
       recorded = λ bytes h. subst (λ (os : List Outcome). g.W.Recorder.records bytes c.args.self.now.recorder (g.K.Sink.written c.args.sink.now) policy (event_of c.args.self.now.tally) os c.arrived.new.self (g.K.Sink.written c.arrived.new.sink))
           (outcome_pushed policy c.args.packet.now s c.ranks.result.now a.fullness (c.ranks.ensures.ranks ∙ ranks s sound stood))
           (told bytes policy (class_of policy c.args.packet.now).leaf h named);
@@ -117,14 +117,14 @@ returns-in_err-dropped-in-Dropped-clause-err g c =
     let at = arrives policy c.args.packet.now r.state c.requires.set.accepted r.has in
     let e = c.in_ok-arrival.ensures in
     let first = answer_dropped policy c.args.packet.now r.state c.in-Dropped.leaf (rw c.in-Dropped.is at (e.answer r.state r.sound r.stood)) in
-    let named = named_leaf policy (g.N.NodeNames.policy c.args.self.now.names.now) (class_of policy c.args.packet.now).leaf c.in-Dropped.leaf c.name-name-in-Dropped.result.now c.requires.set.names at first.leaf_is c.name-name-in-Dropped.ensures.name in
-    let cut = rw c.event-event.ensures at c.in_err-dropped-in-Dropped.ensures.cut in
+    let named = named_leaf policy (g.N.NodeNames.policy c.args.self.now.names) (class_of policy c.args.packet.now).leaf c.in-Dropped.leaf c.name-name-in-Dropped.result.now c.requires.set.names at first.leaf_is c.name-name-in-Dropped.ensures.name in
+    let cut = c.in_err-dropped-in-Dropped.ensures.cut in
     rw (p.1) (λ given next. record {
       next = next;
       stopped = λ s sound stood below.
           let a = answer_dropped policy c.args.packet.now s c.in-Dropped.leaf (rw c.in-Dropped.is at (e.answer s sound stood)) in
           record {
-            leaves = made_all g.C.Scheduler policy (Arrive c.args.packet.now ∷ []) (made_arrival g.C.Scheduler policy c.in_ok-arrival.arrival (e.answer s sound stood) (e.state s sound stood) e.pushes e.departures e.kept.origin (e.spilled s sound stood));
+            leaves = made_all g.C.Scheduler policy (Arrive c.args.packet.now ∷ []) (made_arrival g.C.Scheduler policy c.in_ok-arrival.arrival (e.answer s sound stood) (e.state s sound stood) e.counts.pushes e.counts.departures e.kept.origin (e.spilled s sound stood));
             cut = λ bytes h. subst (λ (os : List Outcome). g.W.Recorder.cuts bytes c.args.self.now.recorder (g.K.Sink.written c.args.sink.now) policy (event_of c.args.self.now.tally) os (g.K.Sink.written c.dropped.new.sink))
                 (outcome_dropped policy c.args.packet.now s a.fullness)
                 (cut bytes policy (class_of policy c.args.packet.now).leaf named);
@@ -138,15 +138,15 @@ returns-in_ok-dropped-in-Dropped-clause-ok g c =
     let at = arrives policy c.args.packet.now r.state c.requires.set.accepted r.has in
     let e = c.in_ok-arrival.ensures in
     let first = answer_dropped policy c.args.packet.now r.state c.in-Dropped.leaf (rw c.in-Dropped.is at (e.answer r.state r.sound r.stood)) in
-    let named = named_leaf policy (g.N.NodeNames.policy c.args.self.now.names.now) (class_of policy c.args.packet.now).leaf c.in-Dropped.leaf c.name-name-in-Dropped.result.now c.requires.set.names at first.leaf_is c.name-name-in-Dropped.ensures.name in
-    let told = rw c.event-event.ensures at c.in_ok-dropped-in-Dropped.ensures.ok in
+    let named = named_leaf policy (g.N.NodeNames.policy c.args.self.now.names) (class_of policy c.args.packet.now).leaf c.in-Dropped.leaf c.name-name-in-Dropped.result.now c.requires.set.names at first.leaf_is c.name-name-in-Dropped.ensures.name in
+    let told = c.in_ok-dropped-in-Dropped.ensures.ok in
     λ given next. makes_dropped g.C.Scheduler (heard_with g.W.Recorder c.args.packet.now c.args.captured.now) policy c.args.packet.now _ _ c.in-Dropped.leaf first.leaf_is next
     (λ s sound stood below. (answer_dropped policy c.args.packet.now s c.in-Dropped.leaf (rw c.in-Dropped.is at (e.answer s sound stood))).fullness)
     refl refl refl c.dropped-in-Dropped.ensures.shown
     (λ s sound stood below.
     let a = answer_dropped policy c.args.packet.now s c.in-Dropped.leaf (rw c.in-Dropped.is at (e.answer s sound stood)) in
     record {
-      leaves = made_arrival g.C.Scheduler policy c.in_ok-arrival.arrival (e.answer s sound stood) (e.state s sound stood) e.pushes e.departures e.kept.origin (e.spilled s sound stood);
+      leaves = made_arrival g.C.Scheduler policy c.in_ok-arrival.arrival (e.answer s sound stood) (e.state s sound stood) e.counts.pushes e.counts.departures e.kept.origin (e.spilled s sound stood);
       recorded = λ bytes h. subst (λ (os : List Outcome). g.W.Recorder.records bytes c.args.self.now.recorder (g.K.Sink.written c.args.sink.now) policy (event_of c.args.self.now.tally) os c.dropped.new.self (g.K.Sink.written c.dropped.new.sink))
           (outcome_dropped policy c.args.packet.now s a.fullness)
           (told bytes policy (class_of policy c.args.packet.now).leaf named);

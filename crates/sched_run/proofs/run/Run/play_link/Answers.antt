@@ -25,7 +25,7 @@ pub arrive_paced-requires-clause-stands : goal.arrive_paced-requires-clause-stan
 arrive_paced-requires-clause-stands g c =
     let S = g.C.Scheduler in
     let i = c.loop-packets.invariant in
-    let number = c.in-Ok-true.ensures.number c.in-Ok-true.field-0-test in
+    let number = (c.in-Ok-true.ensures.next c.in-Ok-true.field-0-test).number in
     let ready = run_ready S (heard g.W.Recorder (g.P.Packets.captures c.args.packets.now c.args.source.now)) (heard-joined g.W.Recorder g.met.W.Recorder.joined (g.P.Packets.captures c.args.packets.now c.args.source.now)) (S.policy c.args.self.now.scheduler) c.requires.set.accepted _ _ _ _ _ _ _ _ i.further.given i.further.few c.requires.begins.fresh (omega arith) c.requires.stands i.run in
     rw i.kept.policy (record {
       state = ready.state;
@@ -51,21 +51,21 @@ loop-packets-preserved g c =
     let i = c.loop-packets.invariant in
     let e = c.in_ok-over-in-Ok-true.ensures in
     let n = c.in-Ok-true.ensures in
-    let number = n.number c.in-Ok-true.field-0-test in
-    let given : g.P.Packets.given c.next.new.self ≡ g.P.Packets.given c.loop-packets.packets + 1 = rw c.in-Ok-true.field-0-test at n.given in
-    let came = n.came c.in-Ok-true.field-0-test in
-    let known = n.bytes c.in-Ok-true.field-0-test in
+    let number = (n.next c.in-Ok-true.field-0-test).number in
+    let given : g.P.Packets.given c.next.new.self ≡ g.P.Packets.given c.loop-packets.packets + 1 = rw c.in-Ok-true.field-0-test at n.moves.given in
+    let came = (n.next c.in-Ok-true.field-0-test).came in
+    let known = (n.next c.in-Ok-true.field-0-test).bytes in
     let sends = rw (i.kept.policy, c.if-over.false) at e.ok in
     let one_came = rw c.if-over.false at e.paces.came in
     record {
       run = run_goes S (heard g.W.Recorder (g.P.Packets.captures c.args.packets.now c.args.source.now)) (heard-joined g.W.Recorder g.met.W.Recorder.joined (g.P.Packets.captures c.args.packets.now c.args.source.now)) policy c.requires.set.accepted _ _ _ _ _ _ _ _ i.further.given i.run _ _ _ _
           (link_goes S (heard g.W.Recorder (g.P.Packets.captures c.args.packets.now c.args.source.now)) policy c.args.rate c.loop-packets.link c.next.new.packet c.arrive_paced.new.link _ _ _ _ came (same_sends S (heard g.W.Recorder (g.P.Packets.captures c.args.packets.now c.args.source.now)) policy _ _ _ _ _ _ _ _ _ _ _ (sym given) (sends_so S (heard_gives g.W.Recorder (IsCapturedAs c.next.new.packet c.captured-captured.result.now) (g.P.Packets.captures c.args.packets.now c.args.source.now) (λ bytes are. known bytes (i.further.known bytes are) ∙ sym c.captured-captured.ensures)) policy _ _ _ _ (sends _ number))));
       early = e.paces.early;
-      further = record { ready = n.ready; known = λ bytes are. n.known bytes (i.further.known bytes are); given = omega (arith, i.further.given, given, one_came); few = n.few };
+      further = record { ready = n.moves.ready; known = λ bytes are. n.known bytes (i.further.known bytes are); given = omega (arith, i.further.given, given, one_came); few = n.moves.few };
       kept = continues_then S _ _ _ i.kept e.keeps.kept;
       fewer = omega (arith, i.fewer, e.keeps.fewer);
       kept_sink = sink-then _ _ _ _ _ i.kept_sink e.keeps.kept_sink;
-      kept_packets = keeps_then g.P.Packets _ _ _ _ _ _ i.kept_packets (record { policy = n.policy; later = n.later });
+      kept_packets = keeps_then g.P.Packets _ _ _ _ _ _ i.kept_packets (record { policy = n.policy; later = n.source.later });
       going = e.paces.over ∙ c.if-over.false;
       live = e.keeps.live;
     }
@@ -76,9 +76,9 @@ returns-in_err-over-in-Ok-true-clause-err g c =
     let S = g.C.Scheduler in
     let policy = S.policy c.args.self.now.scheduler in
     let i = c.loop-packets.invariant in
-    let number = c.in-Ok-true.ensures.number c.in-Ok-true.field-0-test in
-    let came = c.in-Ok-true.ensures.came c.in-Ok-true.field-0-test in
-    let known = c.in-Ok-true.ensures.bytes c.in-Ok-true.field-0-test in
+    let number = (c.in-Ok-true.ensures.next c.in-Ok-true.field-0-test).number in
+    let came = (c.in-Ok-true.ensures.next c.in-Ok-true.field-0-test).came in
+    let known = (c.in-Ok-true.ensures.next c.in-Ok-true.field-0-test).bytes in
     let amid = rw i.kept.policy at c.in_err-over-in-Ok-true.ensures.err in
     rw (p.1) (run_breaks S (heard g.W.Recorder (g.P.Packets.captures c.args.packets.now c.args.source.now)) (heard-joined g.W.Recorder g.met.W.Recorder.joined (g.P.Packets.captures c.args.packets.now c.args.source.now)) policy c.requires.set.accepted _ _ _ _ _ _ _ _ i.further.given i.run g.W.Recorder.over _ _ _
     (link_stops S (heard g.W.Recorder (g.P.Packets.captures c.args.packets.now c.args.source.now)) policy c.args.rate c.loop-packets.link g.W.Recorder.over c.next.new.packet _ _ _ _ _ _ came (sends_amid_so S (heard_gives g.W.Recorder (IsCapturedAs c.next.new.packet c.captured-captured.result.now) (g.P.Packets.captures c.args.packets.now c.args.source.now) (λ bytes are. known bytes (i.further.known bytes are) ∙ sym c.captured-captured.ensures)) policy g.W.Recorder.over _ _ _ _ _ (amid _ number))))
@@ -103,8 +103,8 @@ returns-in_err-over-in-Ok-false-clause-err g c =
     let S = g.C.Scheduler in
     let policy = S.policy c.args.self.now.scheduler in
     let i = c.loop-packets.invariant in
-    let none = c.in-Ok-false.ensures.none c.in-Ok-false.field-0-test in
-    let over = c.in-Ok-false.ensures.over c.in-Ok-false.field-0-test in
+    let none = (c.in-Ok-false.ensures.ended c.in-Ok-false.field-0-test).none in
+    let over = (c.in-Ok-false.ensures.ended c.in-Ok-false.field-0-test).over in
     let amid = rw i.kept.policy at c.in_err-over-in-Ok-false.ensures.err in
     rw (p.1) (run_breaks S (heard g.W.Recorder (g.P.Packets.captures c.args.packets.now c.args.source.now)) (heard-joined g.W.Recorder g.met.W.Recorder.joined (g.P.Packets.captures c.args.packets.now c.args.source.now)) policy c.requires.set.accepted _ _ _ _ _ _ _ _ i.further.given i.run g.W.Recorder.over _ _ _
     (link_drain_stops S (heard g.W.Recorder (g.P.Packets.captures c.args.packets.now c.args.source.now)) policy c.args.rate c.loop-packets.link g.W.Recorder.over _ _ _ _ _ _ none over (sends_amid_so S (heard_gives g.W.Recorder any_bytes (g.P.Packets.captures c.args.packets.now c.args.source.now) (λ bytes are. tt)) policy g.W.Recorder.over _ _ _ _ _ (amid _))))
@@ -114,9 +114,9 @@ returns-in-Ok-false-clause-ok g c =
     let S = g.C.Scheduler in
     let policy = S.policy c.args.self.now.scheduler in
     let i = c.loop-packets.invariant in
-    let none = c.in-Ok-false.ensures.none c.in-Ok-false.field-0-test in
-    let over = c.in-Ok-false.ensures.over c.in-Ok-false.field-0-test in
-    let given : g.P.Packets.given c.next.new.self ≡ g.P.Packets.given c.loop-packets.packets = (let e = rw c.in-Ok-false.field-0-test at c.in-Ok-false.ensures.given in omega (arith, e)) in
+    let none = (c.in-Ok-false.ensures.ended c.in-Ok-false.field-0-test).none in
+    let over = (c.in-Ok-false.ensures.ended c.in-Ok-false.field-0-test).over in
+    let given : g.P.Packets.given c.next.new.self ≡ g.P.Packets.given c.loop-packets.packets = (let e = rw c.in-Ok-false.field-0-test at c.in-Ok-false.ensures.moves.given in omega (arith, e)) in
     let sends = rw (i.kept.policy, c.if-over-2.false) at c.in_ok-over-in-Ok-false.ensures.ok in
     run_ends S (heard g.W.Recorder (g.P.Packets.captures c.args.packets.now c.args.source.now)) (heard-joined g.W.Recorder g.met.W.Recorder.joined (g.P.Packets.captures c.args.packets.now c.args.source.now)) policy c.requires.set.accepted _ _ _ _ _ _ _ _ i.further.given i.run _ _
     (link_drains S (heard g.W.Recorder (g.P.Packets.captures c.args.packets.now c.args.source.now)) policy c.args.rate c.loop-packets.link c.send_until.new.link _ _ _ _ none over (same_sends S (heard g.W.Recorder (g.P.Packets.captures c.args.packets.now c.args.source.now)) policy _ _ _ _ _ _ _ _ _ _ _ (sym given) (sends_so S (heard_gives g.W.Recorder any_bytes (g.P.Packets.captures c.args.packets.now c.args.source.now) (λ bytes are. tt)) policy _ _ _ _ (sends _))))
@@ -138,9 +138,9 @@ returns-then-over-clause-ok g c =
     let policy = S.policy c.args.self.now.scheduler in
     let i = c.loop-packets.invariant in
     let e = c.in_ok-over-in-Ok-true.ensures in
-    let number = c.in-Ok-true.ensures.number c.in-Ok-true.field-0-test in
-    let came = c.in-Ok-true.ensures.came c.in-Ok-true.field-0-test in
-    let known = c.in-Ok-true.ensures.bytes c.in-Ok-true.field-0-test in
+    let number = (c.in-Ok-true.ensures.next c.in-Ok-true.field-0-test).number in
+    let came = (c.in-Ok-true.ensures.next c.in-Ok-true.field-0-test).came in
+    let known = (c.in-Ok-true.ensures.next c.in-Ok-true.field-0-test).bytes in
     let sends = rw (i.kept.policy, c.if-over.true) at e.ok in
     run_first S (heard g.W.Recorder (g.P.Packets.captures c.args.packets.now c.args.source.now)) (heard-joined g.W.Recorder g.met.W.Recorder.joined (g.P.Packets.captures c.args.packets.now c.args.source.now)) policy c.requires.set.accepted _ _ _ _ _ _ _ _ i.further.given i.run g.W.Recorder.over _
     (link_first S (heard g.W.Recorder (g.P.Packets.captures c.args.packets.now c.args.source.now)) policy c.args.rate c.loop-packets.link g.W.Recorder.over c.next.new.packet _ _ _ _ came (same_first S (heard g.W.Recorder (g.P.Packets.captures c.args.packets.now c.args.source.now)) (heard-joined g.W.Recorder g.met.W.Recorder.joined (g.P.Packets.captures c.args.packets.now c.args.source.now)) g.W.Recorder.over policy _ _ _ _ _ _ _ _ _ _ (sends_first_so S (heard_gives g.W.Recorder (IsCapturedAs c.next.new.packet c.captured-captured.result.now) (g.P.Packets.captures c.args.packets.now c.args.source.now) (λ bytes are. known bytes (i.further.known bytes are) ∙ sym c.captured-captured.ensures)) policy g.W.Recorder.over _ _ _ (sends _ number))))
@@ -151,8 +151,8 @@ returns-then-over-2-clause-ok g c =
     let S = g.C.Scheduler in
     let policy = S.policy c.args.self.now.scheduler in
     let i = c.loop-packets.invariant in
-    let none = c.in-Ok-false.ensures.none c.in-Ok-false.field-0-test in
-    let over = c.in-Ok-false.ensures.over c.in-Ok-false.field-0-test in
+    let none = (c.in-Ok-false.ensures.ended c.in-Ok-false.field-0-test).none in
+    let over = (c.in-Ok-false.ensures.ended c.in-Ok-false.field-0-test).over in
     let sends = rw (i.kept.policy, c.if-over-2.true) at c.in_ok-over-in-Ok-false.ensures.ok in
     run_first S (heard g.W.Recorder (g.P.Packets.captures c.args.packets.now c.args.source.now)) (heard-joined g.W.Recorder g.met.W.Recorder.joined (g.P.Packets.captures c.args.packets.now c.args.source.now)) policy c.requires.set.accepted _ _ _ _ _ _ _ _ i.further.given i.run g.W.Recorder.over _
     (link_drain_first S (heard g.W.Recorder (g.P.Packets.captures c.args.packets.now c.args.source.now)) policy c.args.rate c.loop-packets.link g.W.Recorder.over _ _ _ _ none over (same_first S (heard g.W.Recorder (g.P.Packets.captures c.args.packets.now c.args.source.now)) (heard-joined g.W.Recorder g.met.W.Recorder.joined (g.P.Packets.captures c.args.packets.now c.args.source.now)) g.W.Recorder.over policy _ _ _ _ _ _ _ _ _ _ (sends_first_so S (heard_gives g.W.Recorder any_bytes (g.P.Packets.captures c.args.packets.now c.args.source.now) (λ bytes are. tt)) policy g.W.Recorder.over _ _ _ (sends _))))

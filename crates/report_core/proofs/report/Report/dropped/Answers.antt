@@ -1,0 +1,28 @@
+use Rattle.std.proofs.Common.{◌≡◌, [], ◌∷◌, ◌++◌, take, decimal, ap, ◌∙◌, rules}
+use Rattle.std.proofs.lemmas.List.{with_items_is}
+use Rattle.outside_core.specs.Report.{drop_line}
+use Rattle.report_core.proofs.LineTexts.{four_words}
+use Rattle.report_core.proofs.report.Report.dropped.Given.{Over}
+use Rattle.report_core.proofs.report.Report.dropped.Goals as goal
+
+-- the bytes held, and the line after them
+text : (g : Over) (c : goal.After-close g) → take c.put_array-end.result c.put_array-end.new.line
+    ≡ take c.self.inside.buffer.held c.self.inside.buffer.bytes.items ++ drop_line c.args.event c.args.packet c.args.leaf.now
+text g c =
+    c.put_array-end.ensures.text
+    ∙ ap (λ s. s ++ 10 ∷ []) (c.put_name-leaf_end.ensures.text
+    ∙ ap (λ s. s ++ c.args.leaf.now) (c.put-leaf_at.ensures.text
+    ∙ ap (λ s. s ++ decimal c.args.packet ++ 32 ∷ []) (c.put-packet_at.ensures.text
+    ∙ ap (λ s. s ++ decimal c.args.event ++ 32 ∷ []) (c.put_array-event_at.ensures.text
+    ∙ ap (λ l. take c.self.inside.buffer.held l ++ 120 ∷ 32 ∷ []) c.as_mut_slice-line.ensures.value))))
+    ∙ four_words (take c.self.inside.buffer.held c.self.inside.buffer.bytes.items) (decimal c.args.event) (decimal c.args.packet) c.args.leaf.now 120
+
+pub returns-clause-ok : goal.returns-clause-ok
+returns-clause-ok g c =
+    rw (← c.self.view_is) (c.close.ensures.ok (take c.self.inside.buffer.held c.self.inside.buffer.bytes.items) (drop_line c.args.event c.args.packet c.args.leaf.now)
+    (ap (take c.put_array-end.result) (with_items_is c.self.inside.buffer.bytes c.put_array-end.new.line (search rules)) ∙ text g c))
+
+pub returns-clause-cut : goal.returns-clause-cut
+returns-clause-cut g c =
+    rw (← c.self.view_is) (c.close.ensures.cut (take c.self.inside.buffer.held c.self.inside.buffer.bytes.items) (drop_line c.args.event c.args.packet c.args.leaf.now)
+    (ap (take c.put_array-end.result) (with_items_is c.self.inside.buffer.bytes c.put_array-end.new.line (search rules)) ∙ text g c))
