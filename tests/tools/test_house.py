@@ -23,7 +23,13 @@ sys.dont_write_bytecode = True
 house = loaded()
 
 WIDE = "    ensures wide { " + "x" * 90 + " }\n"
-MANY = "".join(f"    ensures c{n} {{ x }}\n" for n in range(house.LIMITS["clauses of a function"] + 1))
+
+
+def clauses(count):
+    return "".join(f"    ensures c{n} {{ x }}\n" for n in range(count))
+
+
+MANY = clauses(house.LIMITS["clauses of a function"] + 1)
 PARAMETERS = ", ".join(f"a{n}: Map<u8, Vec<u8>>" for n in range(house.LIMITS["parameters of a function"] + 1))
 BODY = "    let a = 1;\n" * (house.LIMITS["lines of a function's body"] + 1)
 WRONG = {
@@ -58,11 +64,26 @@ class House(unittest.TestCase):
     def test_functions_with_many_clauses_have_limits_of_their_own(self):
         for (crate, name), most in house.MANY_CLAUSES.items():
             for count in (most, most + 1):
-                many = "".join(f"    ensures c{n} {{ x }}\n" for n in range(count))
                 with self.subTest(name, count=count), tempfile.TemporaryDirectory() as folder:
-                    top = made(folder, f"pub fn {name}()\n{many}{{\n}}\n", crate=crate)
+                    top = made(folder, f"pub fn {name}()\n{clauses(count)}{{\n}}\n", crate=crate)
                     over = {limit for _, found, limit in house.passed(top) if found > house.LIMITS[limit]}
                     self.assertEqual({"clauses of a function"} if count > most else set(), over)
+
+    def test_functions_of_the_walk_have_a_limit_of_their_own(self):
+        most = house.LIMITS["clauses of a function of the walk"]
+        declared = "pub trait Shelf {\n    fn one(&self)\n%s    {\n    }\n}\n"
+        kept = "impl Shelf for Box {\n    fn one(&self) {\n    }\n}\n"
+        sources = {"lib::one": "fn one()\n%s{\n}\n", "BoxShelf::one": declared + kept}
+        for walked, source in sources.items():
+            for name in (walked, "other::two"):
+                for count in (most, most + 1):
+                    with self.subTest(walked, name=name, count=count), tempfile.TemporaryDirectory() as folder:
+                        top = made(folder, source % clauses(count))
+                        (top / "docs").mkdir()
+                        (top / "docs/walk.txt").write_text(f"lib::two  high/src/lib.rt\n  {name}  low/src/lib.rt\n")
+                        over = {limit for _, found, limit in house.passed(top) if found > house.LIMITS[limit]}
+                        is_over = name == walked and count > most
+                        self.assertEqual({"clauses of a function of the walk"} if is_over else set(), over)
 
     def test_crates_and_chains_are_counted(self):
         names = [f"c{n}" for n in range(house.LIMITS["crates in a chain"] + 1)]
