@@ -88,10 +88,7 @@ impl DepartureRecorder for Report {
         sink: &mut K,
         departure: Departure,
     ) -> Result<Option<Departed>, WriteFault> {
-        match departure.start {
-            None => depart_line(names, scheduler, under, trace, self, sink, departure.event),
-            Some(_) => write_departure(names, scheduler, under, trace, self, sink, departure),
-        }
+        write_departure(names, scheduler, under, trace, self, sink, departure)
     }
 }
 
