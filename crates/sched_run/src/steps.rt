@@ -260,13 +260,14 @@ impl<C: Scheduler + Drop, N: NodeNames + Drop, W: DepartureRecorder> Run<C, N, W
             sink,
             Departure { event, start },
         );
-        match &departed {
+        match departed {
             Ok(Some(left)) => {
                 self.tally.asked += 1;
                 if watch.slots.is_empty() {
                     return Ok(Some(left.len));
                 }
-                watch.departed(left)?;
+                let shown = left;
+                watch.departed(&shown)?;
                 Ok(Some(left.len))
             }
             Ok(None) => {
