@@ -11,19 +11,20 @@ use std::alloc::{AllocError, Global};
 pub(crate) const WIDTH: u64 = 64;
 
 /// A slot for a packet, with the position of its number. The chunk determines the rest of the
-/// number. The small fields come first, so that a slot takes 32 bytes.
+/// number. The small fields come first, so that a slot takes 32 bytes. The others are in a packet's
+/// order, so that several are copied at once.
 #[derive(Clone, Copy)]
 pub struct Slot {
     filled: bool,
     place: u8,
     version: u8,
     proto: u8,
-    dport: u16,
     sport: u16,
+    dport: u16,
     source: u32,
     target: u32,
-    len: u32,
     class: u32,
+    len: u32,
     moment: u64,
 }
 
@@ -163,7 +164,9 @@ impl Chunk {
             i -= 1;
             let slot = &self.slots[i];
             if slot.place == place && slot.filled {
-                slot.put_packet(number, packet);
+                // Reading the whole slot before the first write allows wide copies.
+                let found = *slot;
+                found.put_packet(number, packet);
                 self.slots[i].filled = false;
                 self.filled -= 1;
                 return true;
