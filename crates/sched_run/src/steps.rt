@@ -1,15 +1,60 @@
 //! The events of a step of a script, and their records.
-ghost use Rattle.std.specs.Prelude.{◌≡◌};
+ghost use Rattle.std.specs.Prelude.{[], ◌∷◌, OnOk};
+ghost use Rattle.sched_run.specs.Shown.{drop_of, departure_of};
+ghost use Rattle.tap_core.specs.Lists.{departed, dropped};
+ghost use Rattle.tap_core.specs.Watching.{sight_of, Shows, AreNoMore};
 
 use crate::departure::{Departure, DepartureRecorder};
 use crate::run::Run;
 use events_core::Step;
 use outside_core::{ReadError, Sink, Stop};
-use packet_defs::{BLANK, Packet};
+use packet_defs::{BLANK, Departed, Packet};
 use policy_defs::NodeNames;
 use sched_core::{Arrival, Scheduler};
 use sched_defs::{Ending, Packets};
+use std::alloc::AllocError;
 use tap_core::{Dropped, Tap, Watching};
+
+/// Shows a drop to the taps that watch. A call of its own, so that packets that aren't dropped need
+/// no memory for it.
+#[inline(never)]
+fn show_drop<T: Tap>(watch: &mut Watching<T>, packet: &Packet, leaf: u32)
+    ensures shown { Shows (dropped (drop_of packet.now leaf) ∷ [])
+        (sight_of T.kind_of T.state_of watch.old) (sight_of T.kind_of T.state_of watch.new) }
+    ensures fewer { AreNoMore (sight_of T.kind_of T.state_of watch.old)
+        (sight_of T.kind_of T.state_of watch.new) }
+{
+    watch.dropped(&Dropped {
+        packet: packet.number,
+        class: packet.class,
+        leaf,
+        len: packet.len,
+    });
+}
+
+/// Shows a departure to the taps that watch. A call of its own with a departure's fields, so that a
+/// departure needs no memory if none watches. The error means out of memory for the line of a
+/// finished tap.
+#[inline(never)]
+fn show_departure<T: Tap>(
+    watch: &mut Watching<T>,
+    packet: u64,
+    class: u32,
+    leaf: u32,
+    len: u32,
+) -> Result<(), AllocError>
+    ensures shown { OnOk result (Shows (departed (departure_of packet class leaf len) ∷ [])
+        (sight_of T.kind_of T.state_of watch.old) (sight_of T.kind_of T.state_of watch.new)) }
+    ensures fewer { AreNoMore (sight_of T.kind_of T.state_of watch.old)
+        (sight_of T.kind_of T.state_of watch.new) }
+{
+    watch.departed(&Departed {
+        packet,
+        class,
+        leaf,
+        len,
+    })
+}
 
 impl<C: Scheduler + Drop, N: NodeNames + Drop, W: DepartureRecorder> Run<C, N, W> {
     ghost use Rattle.std.specs.Prelude.{◌≡◌, ◌≤◌, ◌+◌, ℕ, [], ◌∷◌, length, replicate, None, IfOk, IfNone, OnOk, OnErr, option_map};
@@ -71,12 +116,7 @@ impl<C: Scheduler + Drop, N: NodeNames + Drop, W: DepartureRecorder> Run<C, N, W
                 self.recorder.dropped(sink, event, packet, name)?;
                 self.tally.came += 1;
                 self.tally.dropped += 1;
-                watch.dropped(&Dropped {
-                    packet: packet.number,
-                    class: packet.class,
-                    leaf,
-                    len: packet.len,
-                });
+                show_drop(watch, packet, leaf);
             }
         }
         Ok(())
@@ -266,8 +306,7 @@ impl<C: Scheduler + Drop, N: NodeNames + Drop, W: DepartureRecorder> Run<C, N, W
                 if watch.slots.is_empty() {
                     return Ok(Some(left.len));
                 }
-                let shown = left;
-                watch.departed(&shown)?;
+                show_departure(watch, left.packet, left.class, left.leaf, left.len)?;
                 Ok(Some(left.len))
             }
             Ok(None) => {

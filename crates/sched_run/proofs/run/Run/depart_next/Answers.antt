@@ -23,8 +23,8 @@ returns-in-Err-clause-err g c =
     }
 
 -- the line is written, but the taps aren't shown the departure
-pub returns-in_err-departed-in-Ok-Some-clause-err : goal.returns-in_err-departed-in-Ok-Some-clause-err
-returns-in_err-departed-in-Ok-Some-clause-err g c =
+pub returns-in_err-show_departure-in-Ok-Some-clause-err : goal.returns-in_err-show_departure-in-Ok-Some-clause-err
+returns-in_err-show_departure-in-Ok-Some-clause-err g c =
     let p = err_from_is_err_and c.from_residual.result c.from_residual.ensures.1 in
     let S = g.C.Scheduler in
     let policy = S.policy c.args.self.now.scheduler in
@@ -50,15 +50,15 @@ returns-then-is_empty-clause-ok g c =
       recorded = recorded s sound stood;
     })
 
-pub returns-in_ok-departed-in-Ok-Some-clause-ok : goal.returns-in_ok-departed-in-Ok-Some-clause-ok
-returns-in_ok-departed-in-Ok-Some-clause-ok g c =
+pub returns-in_ok-show_departure-in-Ok-Some-clause-ok : goal.returns-in_ok-show_departure-in-Ok-Some-clause-ok
+returns-in_ok-show_departure-in-Ok-Some-clause-ok g c =
     let S = g.C.Scheduler in
     let policy = S.policy c.args.self.now.scheduler in
     let e = c.depart-departed.ensures in
     let is : c.in-Ok-Some.field-0 ≡ Some c.in-Ok-Some.left = rw c.in-Ok-Some.is at c.in-Ok-Some.field-0-is in
     let recorded = rw c.in-Ok-Some.is at e.recorded in
     λ given. makes_departure S (heard_anyway g.W.Recorder) policy c.args.start _ _ refl refl refl
-    (λ s sound stood below. shows_departure policy s c.args.start (Some c.in-Ok-Some.left) _ _ (sym is ∙ (rw c.in-Ok-Some.is at (e.departs.value s sound stood))) c.in_ok-departed-in-Ok-Some.ensures.shown)
+    (λ s sound stood below. shows_departure policy s c.args.start (Some c.in-Ok-Some.left) _ _ (sym is ∙ (rw c.in-Ok-Some.is at (e.departs.value s sound stood))) c.in_ok-show_departure-in-Ok-Some.ensures.shown)
     (λ s sound stood below. record {
       leaves = made_departure S policy c.args.start (e.departs.state s sound stood) e.departs.asked.pushes e.departs.asked.departures e.departs.asked.origin e.departs.asked.spilled;
       recorded = recorded s sound stood;

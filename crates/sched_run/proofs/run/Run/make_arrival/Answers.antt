@@ -142,7 +142,7 @@ returns-in_ok-dropped-in-Dropped-clause-ok g c =
     let told = c.in_ok-dropped-in-Dropped.ensures.ok in
     λ given next. makes_dropped g.C.Scheduler (heard_with g.W.Recorder c.args.packet.now c.args.captured.now) policy c.args.packet.now _ _ c.in-Dropped.leaf first.leaf_is next
     (λ s sound stood below. (answer_dropped policy c.args.packet.now s c.in-Dropped.leaf (rw c.in-Dropped.is at (e.answer s sound stood))).fullness)
-    refl refl refl c.dropped-in-Dropped.ensures.shown
+    refl refl refl c.show_drop.ensures.shown
     (λ s sound stood below.
     let a = answer_dropped policy c.args.packet.now s c.in-Dropped.leaf (rw c.in-Dropped.is at (e.answer s sound stood)) in
     record {
