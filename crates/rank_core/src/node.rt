@@ -231,7 +231,12 @@ fn run_for(
             },
             Who::Child(_) => unreachable!(),
         },
-        Eaches::Bare => run(transaction, assigns, env, rank, keeps, &mut []),
+        Eaches::Bare => match form {
+            // Such a step has a variable for each flow. That no call takes `env` here keeps it out
+            // of memory.
+            Form::Fair(_) => unreachable!(),
+            _ => run(transaction, assigns, env, rank, keeps, &mut []),
+        },
     }
 }
 
