@@ -115,13 +115,14 @@ impl FlowTable {
         }
     }
 
-    /// Makes room for as many guesses as there are flows.
+    /// Makes room for at least four times as many guesses as there are flows, so that few flows share
+    /// one.
     fn widen(&mut self) -> Result<(), AllocError>
         ensures places { self.new.places ≡ self.old.places }
         ensures flows { self.new.flows ≡ self.old.flows }
         ensures numbers { self.new.numbers ≡ self.old.numbers }
     {
-        if self.flows.len() >= self.guesses.len() {
+        if self.flows.len() >= self.guesses.len() / 4 {
             let count = self.guesses.len().saturating_mul(2).max(FEWEST);
             self.guesses = vec![in self.alloc; 0; count]?;
         }
