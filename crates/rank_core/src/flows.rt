@@ -1,6 +1,6 @@
 //! The `each` variables of the flows at a leaf.
 
-ghost use Rattle.std.specs.Prelude.{◌≡◌, ◌≢◌, ◌<◌, ℕ, [], length, slice_get, Some, None, OnErr, OnOk};
+ghost use Rattle.std.specs.Prelude.{◌↔◌, ◌≡◌, ◌≢◌, ◌<◌, ℕ, [], length, slice_get, Some, None, OnErr, OnOk, IsTrue};
 ghost use Rattle.std.proofs.Props.{props};
 ghost use Rattle.std.specs.Map.{lookup};
 ghost use Rattle.rank_defs.specs.declared.environment.FlowKey.{FlowKey as Known};
@@ -34,6 +34,20 @@ pub fn key_of(flow: &FlowKey) -> OrderedKey
         proto: flow.proto,
         version: flow.version,
     }
+}
+
+/// Returns whether two flows are the same. It compares the fields that differ most often first, and
+/// is part of its caller.
+#[inline(always)]
+fn is_same(known: &FlowKey, flow: &FlowKey) -> bool
+    ensures { IsTrue result ↔ (known.now ≡ flow.now) }
+{
+    known.sport == flow.sport
+        && known.dport == flow.dport
+        && known.source == flow.source
+        && known.target == flow.target
+        && known.proto == flow.proto
+        && known.version == flow.version
 }
 
 /// The minimum number of guesses, unless there are none.
@@ -89,7 +103,7 @@ impl FlowTable {
             None => 0,
         };
         if let Some(known) = self.flows.get(guess) {
-            if *known == *flow {
+            if is_same(known, flow) {
                 return Some(guess);
             }
         }
