@@ -1,5 +1,5 @@
 -- A queue in a run and a heap: after a push, and after a pop.
-use Rattle.pifo_core.proofs.Prelude.{arith, ◌≡◌, ap, ◌∙◌, false, length, ◌<◌, ◌≤◌, [], refl, sym, true, Some, map, ◌∷◌, List, get_or, suc, zero, ℕ, ◌+◌, inl, inr, ◌++◌, subst, eq-or-lt_of_le, nat_tests, All-from_recursion, recursion_from_All, IsDistinct-IsPermutation, AllByRecursion, IsPermutation, Reverse, put, take_least, held_of_both, IsHeaped, TopIsFirst, arrived_together, leads, heap_order, held_of, leaving_order, queue_of, ArrivedBefore, InLeavingOrder, Leaves, wide, Held}
+use Rattle.pifo_core.proofs.Prelude.{top_of, arith, ◌≡◌, ap, ◌∙◌, false, length, ◌<◌, ◌≤◌, [], refl, sym, true, Some, map, ◌∷◌, List, get_or, suc, zero, ℕ, ◌+◌, inl, inr, ◌++◌, subst, eq-or-lt_of_le, nat_tests, All-from_recursion, recursion_from_All, IsDistinct-IsPermutation, AllByRecursion, IsPermutation, Reverse, put, take_least, held_of_both, IsHeaped, TopIsFirst, arrived_together, leads, heap_order, held_of, leaving_order, queue_of, ArrivedBefore, InLeavingOrder, Leaves, wide, Held}
 use Rattle.std.specs.List.{IsDistinct}
 use Rattle.std.specs.Ordering.{is_lt}
 use Rattle.std.specs.BinaryHeap.{IsHeap, IsUpperBound}
@@ -210,6 +210,15 @@ unfolding IsDistinct
 IsHeaped-empty [] [] no_run none ordered = record { in_order = tt; in_heap = ordered; apart = tt; earlier = tt }
 IsHeaped-empty [] (x ∷ items) no_run none ordered = cc
 IsHeaped-empty (b ∷ run) items no_run none ordered = cc
+
+-- the entry that stands first is the one on top
+pub top-is : (items : List (Reverse Held)) (x : Reverse Held) → 0 < length items → x ≡ get_or items 0 x → x ≡ top_of items
+top-is [] x some is = absurd (omega (arith, some))
+top-is (y ∷ items) x some is = is
+
+pub first-is : (items : List (Reverse Held)) → 0 < length items → top_of items ≡ get_or items 0 (top_of items)
+first-is [] some = absurd (omega (arith, some))
+first-is (y ∷ items) some = refl
 
 -- if the run doesn't lead and the heap is empty, the queue is empty
 pub queue_of-neither : (run : List Brief) (items : List (Reverse Held)) → leads run items ≡ false → length items ≡ 0 → queue_of (held_of_both run items) ≡ []

@@ -23,6 +23,11 @@ heap_order x y = leaving_order y.0 x.0
 abbrev pub arrived_together : Held → Held → Bool
 arrived_together x y = nat_eq x.arrival y.arrival
 
+-- the entry on top of the heap
+abbrev pub top_of : List (Reverse Held) → Reverse Held
+top_of [] = record { 0 = record { rank = 0; arrival = 0; value = 0 } }
+top_of (top ∷ items) = top
+
 -- no entry of the heap is dequeued before the one on top
 abbrev pub TopIsFirst : List (Reverse Held) → Type 0
 TopIsFirst [] = Unit {0}

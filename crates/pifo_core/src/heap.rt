@@ -3,7 +3,7 @@ ghost use Rattle.std.specs.Prelude.{◌≡◌, ◌+◌, ◌≤◌, ◌<◌, ◌�
 ghost use Rattle.std.specs.List.Sorted.{IsPermutation};
 ghost use Rattle.std.specs.BinaryHeap.{heap_items, heap_len, heap_capacity, IsHeap, IsUpperBound, KeepsHeap, PopsGreatest, HeapUnchanged};
 ghost use Rattle.pifo_core.specs.Held.{wide, InLeavingOrder};
-ghost use Rattle.pifo_core.specs.Heaped.{leads, heap_order, TopIsFirst};
+ghost use Rattle.pifo_core.specs.Heaped.{leads, heap_order, top_of, TopIsFirst};
 
 use crate::held::{Brief, Held};
 use crate::pifo::Pifo;
@@ -131,8 +131,10 @@ impl Pifo for HeapPifo {
             let first = self.run.pop_front()?;
             return Some((first.rank, u64::from(first.value)));
         }
-        let Reverse(first) = pop_aside(&mut self.heap)?;
-        Some((first.rank, first.value))
+        let Reverse(top) = self.heap.peek()?;
+        let (rank, value) = (top.rank, top.value);
+        drop_top(&mut self.heap);
+        Some((rank, value))
     }
 
     #[inline(always)]
@@ -158,22 +160,22 @@ fn push_aside(heap: &mut BinaryHeap<Reverse<Held>>, held: Held)
     let _ = heap.push(Reverse(held));
 }
 
-/// Removes the entry at the top of the heap, if there is one.
+/// Drops the entry at the top of the heap.
 #[inline(never)]
-fn pop_aside(heap: &mut BinaryHeap<Reverse<Held>>) -> Option<Reverse<Held>>
-    ensures len { OnSome result (heap_len heap.new + 1 ≡ heap_len heap.old) }
+fn drop_top(heap: &mut BinaryHeap<Reverse<Held>>)
+    requires some { 0 < heap_len heap.old }
+    ensures len { heap_len heap.new + 1 ≡ heap_len heap.old }
     ensures capacity { heap_capacity heap.new ≡ heap_capacity heap.old }
-    ensures top { IfSome result (λ x. x ≡ slice_index_or (heap_items heap.old) 0 x) }
-    ensures permutation { IfSome result
-        (λ x. IsPermutation (heap_items heap.old) (x ∷ heap_items heap.new)) }
-    ensures heap_order { IfSome result
-        (λ x. PopsGreatest heap_order (heap_items heap.old) x (heap_items heap.new)) }
-    ensures below_top { IfSome result
-        (λ x. IsHeap heap_order (heap_items heap.old) → IsUpperBound heap_order x (heap_items heap.new)) }
-    ensures none { IfNone result (heap_len heap.old ≡ 0) }
-    ensures unchanged { IfNone result (HeapUnchanged heap.old heap.new) }
+    ensures permutation { IsPermutation (heap_items heap.old)
+        (top_of (heap_items heap.old) ∷ heap_items heap.new) }
+    ensures heap_order { PopsGreatest heap_order (heap_items heap.old) (top_of (heap_items heap.old))
+        (heap_items heap.new) }
+    ensures below_top { IsHeap heap_order (heap_items heap.old) →
+        IsUpperBound heap_order (top_of (heap_items heap.old)) (heap_items heap.new) }
 {
-    heap.pop()
+    let Some(_top) = heap.pop() else {
+        unreachable!()
+    };
 }
 
 /// Returns whether the next pair to be dequeued is the first of the run.
