@@ -95,10 +95,10 @@ impl Chunk {
         ensures err { OnErr result ((n : ℕ) → packet_of self.new n ≡ packet_of self.old n) }
     {
         let flow = packet.flow;
-        let (Ok(source), Ok(target)) = (u32::try_from(flow.source), u32::try_from(flow.target))
-        else {
+        let most = u128::from(u32::MAX);
+        if flow.source > most || flow.target > most {
             return Ok(false);
-        };
+        }
         let place = (packet.number % WIDTH) as u8;
         if let Some(last) = self.slots.last() {
             if place <= last.place {
@@ -115,8 +115,8 @@ impl Chunk {
             proto: flow.proto,
             sport: flow.sport,
             dport: flow.dport,
-            source,
-            target,
+            source: flow.source as u32,
+            target: flow.target as u32,
             class: packet.class,
             len: packet.len,
             moment: packet.moment,

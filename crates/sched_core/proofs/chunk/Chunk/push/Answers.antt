@@ -2,7 +2,7 @@ use Rattle.sched_core.proofs.Prelude.{arith, ◌≡◌, ap, ◌∙◌, sym, List
 use Rattle.sched_core.proofs.SlotLaws.{if_same, if_other, split, among-push, ordered-push, filled-push, ordered-in, ordered-out, filled-le, behind-last}
 use Rattle.sched_core.proofs.ChunkLaws.{same-number}
 use Rattle.sched_core.proofs.chunk.Chunk.push.Goals as goal
-use Rattle.sched_core.proofs.chunk.Chunk.push.Goals.{After-push_reserved, in-Some+else-place-last, in_default-last, then-len-capacity+in_ok-grow, else-len-capacity}
+use Rattle.sched_core.proofs.chunk.Chunk.push.Goals.{After-push_reserved, in-Some+else-place-last, in_default, then-len-capacity+in_ok-grow, else-len-capacity}
 
 -- ---- the position is after those of all slots
 last-some : (xs : List Slot) (s : Slot) → Some s ≡ slice_get xs (length xs - 1) → 0 < length xs
@@ -22,7 +22,7 @@ behind c =
           let there = last-some c.deref.result.now last w.in-Some.ensures.value in
           let item : last ≡ get_or slots (length slots - 1) last = subst (λ (xs : List Slot). last ≡ get_or xs (length xs - 1) last) c.deref.ensures.value w.in-Some.ensures.item.1 in
           omega (arith, there, ap length c.deref.ensures.value, behind-last 0 slots (length slots - 1) last (omega (arith, there, ap length c.deref.ensures.value)), ap (λ (s : Slot). s.place) item, w.if-place-last.false)
-      | in_default-last w ↦ omega (arith, ap (place_behind 0) (sym c.deref.ensures.value ∙ last-none c.deref.result.now w.in_default-last.ensures.value))
+      | in_default w ↦ omega (arith, ap (place_behind 0) (sym c.deref.ensures.value ∙ last-none c.deref.result.now w.in_default.ensures.value))
     ]
 
 -- the slot of the last position
@@ -45,11 +45,7 @@ same c = elim c.if-len-capacity.branch [
 abbrev slot : After-push_reserved → Slot
 slot c =
     let p = c.args.packet.now in
-    record { filled = true; place = p.number % 64; version = p.flow.version; proto = p.flow.proto; dport = p.flow.dport; sport = p.flow.sport; source = c.in-Ok-Ok.source; target = c.in-Ok-Ok.target; len = p.len; class = p.class; moment = p.moment }
-
--- the addresses are short
-addresses : (c : After-push_reserved) → (c.in-Ok-Ok.source ≡ c.args.packet.now.flow.source) × (c.in-Ok-Ok.target ≡ c.args.packet.now.flow.target)
-addresses c = (omega (arith, c.in-Ok-Ok.ensures), omega (arith, c.in-Ok-Ok.ensures'))
+    record { filled = true; place = p.number % 64; version = p.flow.version; proto = p.flow.proto; dport = p.flow.dport; sport = p.flow.sport; source = p.flow.source; target = p.flow.target; len = p.len; class = p.class; moment = p.moment }
 
 more : (c : After-push_reserved) → c.push_reserved.new.self.items ≡ c.args.self.now.slots.items ++ slot c ∷ []
 more c = c.push_reserved.ensures.items ∙ ap (λ (xs : List Slot). xs ++ slot c ∷ []) (same c)
@@ -78,7 +74,7 @@ returns-clause-ok c = λ n near.
     let t = (goal.at.returns-clause-ok c).After-push_reserved in
     let p = c.args.packet.now in
     let slots = c.args.self.now.slots.items in
-    let is : packet_in p.number (slot t) ≡ p = rw ((addresses t).0, (addresses t).1) refl in
+    let is : packet_in p.number (slot t) ≡ p = refl in
     ap (λ (xs : List Slot). packet_among xs n) (more t)
     ∙ among-push 0 slots (slot t) n (ordered-in 0 slots c.args.self.now.ordered) (behind t) refl
     ∙ split n p.number
@@ -88,4 +84,4 @@ returns-clause-ok c = λ n near.
 pub returns-clause-added : goal.returns-clause-added
 returns-clause-added c =
     let t = (goal.at.returns-clause-added c).After-push_reserved in
-    ((λ _. ((omega (arith, (addresses t).0), omega (arith, (addresses t).1)), behind t)), (λ _. refl))
+    ((λ _. ((omega (arith, t.if-flow-most.false, t.from-most.ensures), omega (arith, t.if-flow-most-2.false, t.from-most.ensures)), behind t)), (λ _. refl))
