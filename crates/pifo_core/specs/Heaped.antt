@@ -23,9 +23,13 @@ heap_order x y = leaving_order y.0 x.0
 abbrev pub arrived_together : Held → Held → Bool
 arrived_together x y = nat_eq x.arrival y.arrival
 
+-- an entry of the heap
+abbrev pub aside : ℕ → ℕ → ℕ → Reverse Held
+aside rank arrival value = record { 0 = record { rank = rank; arrival = arrival; value = value } }
+
 -- the entry on top of the heap
 abbrev pub top_of : List (Reverse Held) → Reverse Held
-top_of [] = record { 0 = record { rank = 0; arrival = 0; value = 0 } }
+top_of [] = aside 0 0 0
 top_of (top ∷ items) = top
 
 -- no entry of the heap is dequeued before the one on top

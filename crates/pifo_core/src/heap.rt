@@ -3,7 +3,7 @@ ghost use Rattle.std.specs.Prelude.{◌≡◌, ◌+◌, ◌≤◌, ◌<◌, ◌�
 ghost use Rattle.std.specs.List.Sorted.{IsPermutation};
 ghost use Rattle.std.specs.BinaryHeap.{heap_items, heap_len, heap_capacity, IsHeap, IsUpperBound, KeepsHeap, PopsGreatest, HeapUnchanged};
 ghost use Rattle.pifo_core.specs.Held.{wide, InLeavingOrder};
-ghost use Rattle.pifo_core.specs.Heaped.{leads, heap_order, top_of, TopIsFirst};
+ghost use Rattle.pifo_core.specs.Heaped.{leads, heap_order, aside, top_of, TopIsFirst};
 
 use crate::held::{Brief, Held};
 use crate::pifo::Pifo;
@@ -113,12 +113,7 @@ impl Pifo for HeapPifo {
                 self.run.push_back_reserved(brief);
             }
             _ => {
-                let held = Held {
-                    rank,
-                    arrival: self.pushed,
-                    value,
-                };
-                push_aside(&mut self.heap, held);
+                push_aside(&mut self.heap, rank, self.pushed, value);
             }
         }
         self.pushed += 1;
@@ -147,16 +142,22 @@ impl Pifo for HeapPifo {
     }
 }
 
-/// Adds an entry to the heap, which has room for it.
+/// Adds an entry to the heap, which has room for it. It takes the entry's fields, so that none is
+/// read back from memory.
 #[inline(never)]
-fn push_aside(heap: &mut BinaryHeap<Reverse<Held>>, held: Held)
+fn push_aside(heap: &mut BinaryHeap<Reverse<Held>>, rank: u64, arrival: u64, value: u64)
     requires room { heap_len heap.old < heap_capacity heap.old }
     ensures len { heap_len heap.new ≡ heap_len heap.old + 1 }
     ensures capacity { heap_capacity heap.old ≤ heap_capacity heap.new }
-    ensures permutation { IsPermutation (record { 0 = held } ∷ heap_items heap.old)
+    ensures permutation { IsPermutation (aside rank arrival value ∷ heap_items heap.old)
         (heap_items heap.new) }
     ensures heap_order { KeepsHeap heap_order (heap_items heap.old) (heap_items heap.new) }
 {
+    let held = Held {
+        rank,
+        arrival,
+        value,
+    };
     let _ = heap.push(Reverse(held));
 }
 
@@ -168,8 +169,8 @@ fn drop_top(heap: &mut BinaryHeap<Reverse<Held>>)
     ensures capacity { heap_capacity heap.new ≡ heap_capacity heap.old }
     ensures permutation { IsPermutation (heap_items heap.old)
         (top_of (heap_items heap.old) ∷ heap_items heap.new) }
-    ensures heap_order { PopsGreatest heap_order (heap_items heap.old) (top_of (heap_items heap.old))
-        (heap_items heap.new) }
+    ensures heap_order { PopsGreatest heap_order (heap_items heap.old)
+        (top_of (heap_items heap.old)) (heap_items heap.new) }
     ensures below_top { IsHeap heap_order (heap_items heap.old) →
         IsUpperBound heap_order (top_of (heap_items heap.old)) (heap_items heap.new) }
 {
