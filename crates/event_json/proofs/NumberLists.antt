@@ -1,6 +1,6 @@
 -- Numbers separated by commas, the first one first.
-use Rattle.event_json.proofs.Prelude.{[], ◌∙◌, ◌∷◌, ap, sym, ◌≡◌, List, arith, ℕ, ◌++◌, ◌+◌, decimal, drop, ◌<◌, ◌≤◌, append-nil, append_assoc, length, ◌-◌, get_or, length-drop, take, numbers_text}
-use Rattle.std.proofs.lemmas.List.{take_all, take_rest, drop_more, drop_all}
+use Rattle.event_json.proofs.Prelude.{[], ◌∙◌, ◌∷◌, ap, sym, ◌≡◌, List, arith, ℕ, ◌++◌, ◌+◌, decimal, drop, ◌<◌, ◌≤◌, append-nil, append_assoc, length, ◌-◌, get_or, take, numbers_text}
+use Rattle.std.proofs.lemmas.List.{take_all, drop_more, drop_all}
 
 -- the numbers after others
 abbrev pub later_numbers : List ℕ → List ℕ
@@ -10,9 +10,6 @@ later_numbers (n ∷ ns) = 44 ∷ decimal n ++ later_numbers ns
 first_number : (n : ℕ) (ns : List ℕ) → numbers_text (n ∷ ns) ≡ decimal n ++ later_numbers ns
 first_number n [] = sym (append-nil (decimal n))
 first_number n (m ∷ ns) = ap (λ s. decimal n ++ 44 ∷ s) (first_number m ns)
-
-pub few_others : (values : List ℕ) → length values ≤ 65 → length (take (length values - 1) (drop 1 values)) ≤ 64
-few_others values few = omega (arith, few, ap length (take_rest values 1), length-drop 1 values)
 
 -- a line with the first number, and then the others
 pub with_first : (values before after : List ℕ) → 1 ≤ length values → after ≡ before ++ decimal (get_or values 0 0)

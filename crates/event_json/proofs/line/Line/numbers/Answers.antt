@@ -1,5 +1,6 @@
 use Rattle.std.proofs.Common.{◌-◌, length, take, drop, arith}
-use Rattle.event_json.proofs.NumberLists.{few_others, with_first, with_one_more, with_all}
+use Rattle.report_core.proofs.Ranks.{few_others}
+use Rattle.event_json.proofs.NumberLists.{with_first, with_one_more, with_all}
 use Rattle.event_json.proofs.line.Line.numbers.Goals as goal
 
 pub loop-value-init : goal.loop-value-init
