@@ -25,10 +25,10 @@ use Rattle.replay_app.specs.Policies.{IsPolicy, IsPolicyRefused}
 use Rattle.replay_app.specs.Scripts.{script_pace, ending_status}
 use Rattle.replay_app.specs.Stages.{BehindRoom, BehindScript, BehindTarget, BehindTargetText, BehindWords}
 use Rattle.replay_app.specs.Targets.{ForTarget}
-use Rattle.replay_app.specs.Via.{ForMap, ForTopology, IsMapRefused, IsTried, Unbroken, WithRoomAlong, names_of}
+use Rattle.replay_app.specs.Via.{ForMap, ForTopology, IsMapRefused, IsMapFile, Unbroken, WithRoomAlong, names_of}
 use Rattle.replay_app.specs.declared.status.Status.TheVariants.{Done}
 use Rattle.replay_app.proofs.CaptureLaws.{whole_part}
-use Rattle.replay_app.proofs.Unused.{no_run}
+use Rattle.replay_app.proofs.NoRuns.{no_run}
 use Rattle.block_replay.specs.Behind.{AreBlockTapsLeft}
 use Rattle.block_replay.specs.Spills.{counted, run_spills, spills_line, spills_text}
 
@@ -91,8 +91,8 @@ behind_text watching policy target pacing capture contents a is =
 
 behind_words : (watching : List Entry) (latest : Edition) (policy target : List ℕ) (pacing : Pacing) (capture : List ℕ) (contents : List ℕ → List ℕ) (a : Answer) → BehindWords watching latest policy target pacing capture contents a → HasRun a
 behind_words watching latest policy target pacing capture contents a is =
-    each-follows kind.Policy (IsPolicyRefused latest (contents policy)) (IsPolicy latest (contents policy)) (λ judged. BehindTargetText watching judged.policy target pacing capture contents) HasRun (refused kind.Policy _)
-    (λ judged b accepted. behind_text watching judged.policy target pacing capture contents b) a is
+    each-follows kind.Policy (IsPolicyRefused latest (contents policy)) (IsPolicy latest (contents policy)) (λ policy_file. BehindTargetText watching policy_file.policy target pacing capture contents) HasRun (refused kind.Policy _)
+    (λ policy_file b accepted. behind_text watching policy_file.policy target pacing capture contents b) a is
 
 unbroken : (names : List (List ℕ)) (broken : Option MapFault) (after : Answer → Type 0) → ((a : Answer) → after a → HasRun a) → (a : Answer) → Unbroken names broken after a → HasRun a
 unbroken names None after h a is = h a is
@@ -120,8 +120,8 @@ module _ (c e : List ℕ) (contents : List ℕ → List ℕ) where
 
       then_map : (policy : Resolved) (middle : Topology) (a : Answer) → ThenMap policy middle a → HasRun a
       then_map policy middle a is =
-          each-follows kind.Map (IsMapRefused policy.policy (contents m)) (IsTried policy.policy middle (contents m)) (λ tried. Unbroken (names_of policy.policy) tried.fault (ThenTarget policy middle tried.given)) HasRun
-          (refused kind.Map _) (λ tried b read. unbroken (names_of policy.policy) tried.fault (ThenTarget policy middle tried.given) (then_target policy middle tried.given) b) a is
+          each-follows kind.Map (IsMapRefused policy.policy (contents m)) (IsMapFile policy.policy middle (contents m)) (λ map_file. Unbroken (names_of policy.policy) map_file.fault (ThenTarget policy middle map_file.given)) HasRun
+          (refused kind.Map _) (λ map_file b read. unbroken (names_of policy.policy) map_file.fault (ThenTarget policy middle map_file.given) (then_target policy middle map_file.given) b) a is
 
       module _ (g : List ℕ) where
         abbrev ThenTopology : Resolved → Answer → Type 0
@@ -137,8 +137,8 @@ run_there (plan latest p t) contents taps used a is = absurd (used tt)
 run_there (direct latest p c e) contents taps used a is = absurd (used tt)
 run_there (soak load) contents taps used a is = subst HasRun (sym is.is) (record { there = λ e. (_, refl) })
 run_there (via latest p g m t c e) contents taps used a is =
-    each-follows kind.Policy (IsPolicyRefused latest (contents p)) (IsPolicy latest (contents p)) (λ judged. ThenTopology c e contents t m g judged.policy) HasRun (refused kind.Policy _)
-    (λ judged b accepted. then_topology c e contents t m g judged.policy b) a is
+    each-follows kind.Policy (IsPolicyRefused latest (contents p)) (IsPolicy latest (contents p)) (λ policy_file. ThenTopology c e contents t m g policy_file.policy) HasRun (refused kind.Policy _)
+    (λ policy_file b accepted. then_topology c e contents t m g policy_file.policy b) a is
 run_there no_form contents taps used a is = absurd (used tt)
 
 -- ---- texts

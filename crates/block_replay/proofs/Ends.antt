@@ -57,7 +57,7 @@ still fabrics f output status none = record {
 
 pub calm_runs_nothing : (latest : Edition) (policy target : List ℕ) (a : Answer) → IsCalmTold latest policy target a → a.run ≡ None
 calm_runs_nothing latest policy target a is =
-    each-follows kind.Policy _ _ _ (λ b. b.run ≡ None) (λ code place h. refl) (λ judged b h k.
+    each-follows kind.Policy _ _ _ (λ b. b.run ≡ None) (λ code place h. refl) (λ policy_file b h k.
     each-follows kind.Target _ _ _ (λ d. d.run ≡ None) (λ code place l. refl) (λ read d l m.
     each-follows kind.Size _ _ _ (λ f. f.run ≡ None) (λ code place n. refl) (λ images f n o. ap (λ (x : Answer). x.run) o) d m) b k) a is
 

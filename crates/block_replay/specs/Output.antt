@@ -39,7 +39,7 @@ BehindPolicy policy target = ForTarget target (BehindTarget policy)
 
 -- outputs that depend on the texts of a policy and a target
 abbrev pub IsCalmTold : Edition → List ℕ → List ℕ → Answer → Type 0
-IsCalmTold latest policy target = UnderPolicy latest policy (λ judged. BehindPolicy judged.policy target)
+IsCalmTold latest policy target = UnderPolicy latest policy (λ policy_file. BehindPolicy policy_file.policy target)
 
 -- The output for these arguments, file contents and taps: that of the program over plain queues,
 -- followed by the spills of its run; or whether a policy is calm.

@@ -54,4 +54,4 @@ IsUpgradeOf es = Follows Policy (IsUpgradeRefused es) (IsPolicy latest (upgraded
 -- the output for the text of a policy: its first error, as `check` writes it; or what becomes of it
 -- as a text of version 3
 abbrev pub IsUpgraded : List ℕ → Answer → Type 0
-IsUpgraded text = UnderPolicy latest text (λ judged. IsUpgradeOf judged.entries)
+IsUpgraded text = UnderPolicy latest text (λ policy_file. IsUpgradeOf policy_file.entries)

@@ -13,7 +13,7 @@ ghost use Rattle.front_upgrade.specs.Upgraded.{latest, AreSound, upgraded_text, 
 use crate::text::{line_at, upgraded_text};
 use outside_core::{PlainShelf, Shelf, Sink, Stop};
 use policy_text::{Edition, Lines};
-use replay_app::{Judged, Read, Refusal, Status, read_policy, refuse, stop_status, write};
+use replay_app::{PolicyFile, Read, Refusal, Status, read_policy, refuse, stop_status, write};
 use report_core::FaultKind;
 use std::alloc::{AllocError, Global};
 
@@ -33,7 +33,7 @@ fn shelf_of(alloc: Global, text: Vec<u8>) -> Result<PlainShelf, AllocError>
 }
 
 /// Reads a text of version 3, and decides whether its policy is accepted.
-fn read_again(alloc: Global, text: Vec<u8>) -> Result<Read<Judged>, Stop>
+fn read_again(alloc: Global, text: Vec<u8>) -> Result<Read<PolicyFile>, Stop>
     ensures read { IfOk result (IsPolicyRead latest text.items) }
     ensures reads_nothing { IsErrOf result Stop.Source → ⊥ }
     ensures writes_nothing { IsErrOf result Stop.Sink → ⊥ }
@@ -101,7 +101,7 @@ fn upgrade_file<S: Shelf, K: Sink>(
         (K.faults sink.new) }
 {
     match read_policy(alloc, LATEST, shelf, name)? {
-        Read::Accepted(judged) => upgrade_lines(alloc, &judged.lines, sink),
+        Read::Accepted(policy_file) => upgrade_lines(alloc, &policy_file.lines, sink),
         Read::Refused(refusal) => refuse(alloc, sink, FaultKind::Policy, refusal),
     }
 }

@@ -1,6 +1,8 @@
 -- Contents that are known to the contract, and the statuses of endings.
-use Rattle.replay_app.proofs.Prelude.{ℕ, List, ◌≡◌, refl, ap, ◌∙◌, [], ◌∷◌, Option, arith, inr, inl, map, ◌<◌, Bool, ◌⊎◌, Err, Result, Ok, IfOk, Stop, Sense, ForwardEnding, Ending, BadCapture, PastLast, Whole, CanEndSo, entries_in, senses_of, ending_status, status_code, IsOneOf, IsStop, forward_status, run_status, IsRefusal, forward_statuses, pace_statuses, paced_statuses, run_statuses, Pacing, forward, link, script, AreTold, Status, Done, BadMap, BadPolicy, BadScript, BadTarget, BadTree, LateStart, NoForm, NoRoom, OtherLink, OverLimit}
+use Rattle.replay_app.proofs.Prelude.{subst, sym, ℕ, List, ◌≡◌, refl, ap, ◌∙◌, [], ◌∷◌, Option, arith, inr, inl, map, ◌<◌, Bool, ◌⊎◌, Stop, Sense, ForwardEnding, Ending, BadCapture, PastLast, Whole, CanEndSo, entries_in, senses_of, ending_status, status_code, IsOneOf, IsStop, forward_status, run_status, IsRefusal, forward_statuses, pace_statuses, run_statuses, AreTold, Status, Done, BadMap, BadPolicy, BadScript, BadTarget, BadTree, LateStart, NoForm, NoRoom, OtherLink, OverLimit}
+use Rattle.std.specs.Prelude.{IsTrue}
 use Rattle.outside_core.specs.Files.{KeepsFiles}
+use Rattle.replay_app.specs.Words.{AreLent}
 use Rattle.policy_text_defs.specs.Canonical.{canonical_text}
 use Rattle.policy_text.specs.Entries.{Numbered, entry_of, sense_at}
 use Rattle.policy_text.specs.declared.lines.Lines.{Lines}
@@ -16,6 +18,11 @@ pub told-later : {S : Type 0} (lends : S → List ℕ → Bool) (content : S →
     → KeepsFiles lends content old new → AreTold (content old) contents names → AreTold (content new) contents names
 told-later lends content old new contents [] keeps told = tt
 told-later lends content old new contents (name ∷ names) keeps told = (keeps.contents name ∙ told.0, told-later lends content old new contents names keeps told.1)
+
+-- a name that could be opened still can be
+pub lent-later : {S : Type 0} (lends : S → List ℕ → Bool) (content : S → List ℕ → Option (List ℕ)) (old new : S) (names : List (List ℕ)) → KeepsFiles lends content old new → AreLent (lends old) names → AreLent (lends new) names
+lent-later lends content old new [] keeps lent = tt
+lent-later lends content old new (name ∷ names) keeps lent = (subst IsTrue (sym (keeps.lent name)) lent.0, lent-later lends content old new names keeps lent.1)
 
 -- ---- printed statements
 senses-held : (xs : List Numbered) → map sense_at xs ≡ senses_of (map entry_of xs)
@@ -53,7 +60,7 @@ no_refusal n (inr (inr (inl e))) (inl r) = omega (arith, e, r.0)
 no_refusal n (inr (inr (inl e))) (inr r) = omega (arith, e, r.0)
 no_refusal n (inr (inr (inr e))) r = e
 
-no_refusal_forward : (n : ℕ) → IsOneOf forward_statuses n → IsRefusal n → ⊥
+pub no_refusal_forward : (n : ℕ) → IsOneOf forward_statuses n → IsRefusal n → ⊥
 no_refusal_forward n (inl e) (inl r) = omega (arith, e, r.1)
 no_refusal_forward n (inl e) (inr r) = omega (arith, e, r.0)
 no_refusal_forward n (inr (inl e)) (inl r) = omega (arith, e, r.1)
@@ -69,15 +76,6 @@ forward_ends forward_ending.Whole = inr (inr (inr (inl refl)))
 forward_ends (forward_ending.BadCapture c p) = inl refl
 forward_ends (forward_ending.OtherLink n) = inr (inl refl)
 forward_ends forward_ending.Late = inr (inr (inl refl))
-
-no_refusal_by : (p : Pacing) (n : ℕ) → IsOneOf (paced_statuses p) n → IsRefusal n → ⊥
-no_refusal_by (script e named) n one r = no_refusal n one r
-no_refusal_by (link rate) n one r = no_refusal n (inr one) r
-no_refusal_by (forward rate) n one r = no_refusal_forward n one r
-
-pub paced_no_refusal : (p : Pacing) (r : Result Status Stop) (A : Type 0) → IfOk r (λ s. IsOneOf (paced_statuses p) (status_code s)) → IfOk r (λ s. IsRefusal (status_code s) → A)
-paced_no_refusal p (Ok s) A one = λ refused. absurd (no_refusal_by p (status_code s) one refused)
-paced_no_refusal p (Err e) A one = tt
 
 -- ---- statuses, and stops
 apart : (s : Status) → (status_code s < 8) ⊎ (10 < status_code s)

@@ -1,5 +1,5 @@
 -- Outputs that depend on inputs, which may be rejected.
-use Rattle.replay_app.proofs.Prelude.{subst, sym, ℕ, List, ◌≡◌, refl, ap, ◌∷◌, Option, inr, inl, on_ok_weaker, on_err_weaker, IfOk-weaker, Err, Result, Ok, IfOk, OnOk, OnErr, Ghosts, Appended, AppendedPrefix, Stop, FaultKind, LeavesPart, IsAsItWas, Sight, Answer, IsTold, IsLeft, IsDone, refusal, Each, LeavesBoth, Follows, goes_on, stops, status_code, IsOneOf, kind_status, Status}
+use Rattle.replay_app.proofs.Prelude.{subst, sym, ℕ, List, ◌≡◌, refl, ap, Option, on_ok_weaker, on_err_weaker, IfOk-weaker, Err, Result, Ok, IfOk, OnOk, OnErr, Ghosts, Appended, AppendedPrefix, Stop, FaultKind, IsAsItWas, Answer, IsTold, IsDone, refusal, Each, Follows, goes_on, stops, status_code, kind_status, Status}
 
 -- nothing changed
 pub unchanged : {F : Type 0} (fabrics : Ghosts F) (f : F) → IsAsItWas fabrics f f
@@ -65,23 +65,11 @@ module _ {T : Type 0} (kind : FaultKind) (refused : ℕ → ℕ → Type 0) (acc
       part = on_err_weaker r (λ p. refused-each are (λ a. AppendedPrefix old new a.text) code place h p) part;
     }
 
-    pub refused_left : {F : Type 0} (fabrics : Ghosts F) (f : F) (sight : Sight) (code place : ℕ) → refused code place → IsLeft fabrics (Follows kind refused accepted after) r f f sight sight
-    refused_left fabrics f sight code place h = record {
-      whole = always_ok r (refused-each are (LeavesBoth fabrics f f sight sight) code place h (record { fabric = unchanged fabrics f; taps = refl }));
-      part = always_err r (refused-each are (λ a. LeavesPart fabrics a.run f f) code place h (unchanged fabrics f));
-    }
-
     -- the call accepted the input, and went on
     pub accepted_told : (old new : Option (List ℕ)) (t : T) → accepted t → IsTold (after t) r old new → IsTold (Follows kind refused accepted after) r old new
     accepted_told old new t h told = record {
       whole = IfOk-weaker r _ _ (λ s given. record { answer = given.answer; is = goes_on t given.answer h given.is; status_is = given.status_is; text = given.text }) told.whole;
       part = on_err_weaker r (λ p. accepted-each are (λ a. AppendedPrefix old new a.text) t h p) told.part;
-    }
-
-    pub accepted_done : (whole part : Answer → Type 0) (t : T) → accepted t → IsDone (after t) r whole part → IsDone (Follows kind refused accepted after) r whole part
-    accepted_done whole part t h done = record {
-      whole = on_ok_weaker r (λ p. accepted-each are whole t h p) done.whole;
-      part = on_err_weaker r (λ p. accepted-each are part t h p) done.part;
     }
 
 -- ---- one output
@@ -99,14 +87,6 @@ module _ (x : Answer) (r : Result Status Stop) where
   }
 
 -- ---- statuses
-pub refused-status : (r : Result Status Stop) (kind : FaultKind) (others : List ℕ) → IfOk r (λ s. s ≡ kind_status kind) → IfOk r (λ s. IsOneOf (status_code (kind_status kind) ∷ others) (status_code s))
-refused-status (Ok s) kind others e = inl (ap status_code e)
-refused-status (Err e) kind others h = tt
-
-pub later-status : (r : Result Status Stop) (n : ℕ) (others : List ℕ) → IfOk r (λ s. IsOneOf others (status_code s)) → IfOk r (λ s. IsOneOf (n ∷ others) (status_code s))
-later-status (Ok s) n others h = inr h
-later-status (Err e) n others h = tt
-
 pub known-status : (r : Result Status Stop) (kind : FaultKind) → IfOk r (λ s. s ≡ kind_status kind) → IfOk r (λ s. status_code s ≡ status_code (kind_status kind))
 known-status (Ok s) kind e = ap status_code e
 known-status (Err e) kind h = tt

@@ -1,5 +1,5 @@
 -- Laws of a run whose departures are written as a capture.
-use Rattle.replay_app.proofs.Prelude.{subst, sym, ℕ, List, ◌≡◌, refl, ap, Option, Some, None, on_ok_weaker, Err, Result, Ok, IfSome, Ghosts, Appended, AppendedPrefix, Stop, Resolved, ForwardEnding, LeavesPart, Leaves, run_of, Laid, Sight, Answer, IsTold, IsLeft, HoldsRun, forward_run, status_code, forward_status, Status}
+use Rattle.replay_app.proofs.Prelude.{subst, sym, ℕ, List, ◌≡◌, ap, Option, Some, None, Err, Ok, IfSome, Ghosts, Appended, AppendedPrefix, Stop, Resolved, ForwardEnding, LeavesPart, Leaves, run_of, Laid, Answer, IsTold, HoldsRun, forward_run, status_code, forward_status, Status}
 use Rattle.sched_capture.specs.Forwards.{forward_answer}
 use Rattle.replay_app.proofs.FollowLaws.{exactly_told}
 use Rattle.sched_defs.specs.declared.rate.LinkRate.{LinkRate}
@@ -30,10 +30,3 @@ module _ (policy : Resolved) (laid : Laid) (rate : LinkRate) where
         → IfSome told (λ file. HoldsRun fabrics (λ a. a ≡ answer file) (Err stop) old new)
     forward_holds_part None stop leaves = tt
     forward_holds_part (Some file) stop leaves = record { whole = tt; part = λ a is. subst (λ (b : Answer). LeavesPart fabrics b.run old new) (sym is) leaves }
-
-    -- taps are shown nothing
-    pub forward_left : (file : List ℕ) (r : Result Status Stop) (sight : Sight) → HoldsRun fabrics (λ a. a ≡ answer file) r old new → IsLeft fabrics (λ a. a ≡ answer file) r old new sight sight
-    forward_left file r sight holds = record {
-      whole = on_ok_weaker r (λ each a is. record { fabric = each a is; taps = rw is refl }) holds.whole;
-      part = holds.part;
-    }

@@ -1,5 +1,5 @@
 -- Each input is rejected with only one code and position, or accepted as only one value.
-use Rattle.replay_app.proofs.Prelude.{subst, sym, ℕ, List, ◌≡◌, refl, ap, ◌∙◌, [], ◌∷◌, arith, length, ◌<◌, ◌≤◌, suc, ◌≢◌, All-cons, All-nil, IsEmbedding, image_map, levels, one-policy, AreAccepted, IsFault, line_of, AreRising, HasEntries, Target, Topology, complete, Tree, Address, IsPolicyRefused, IsPolicy, IsTextRefused, Judged, statements_refused, text_refused, IsPlacement, HasNoRoom, IsTargetOf, IsTargetRefused, Edition}
+use Rattle.replay_app.proofs.Prelude.{subst, sym, ℕ, List, ◌≡◌, refl, ap, ◌∙◌, [], ◌∷◌, arith, length, ◌<◌, ◌≤◌, suc, ◌≢◌, All-cons, All-nil, IsEmbedding, image_map, levels, one-policy, AreAccepted, IsFault, line_of, AreRising, HasEntries, Target, Topology, complete, Tree, Address, IsPolicyRefused, IsPolicy, IsTextRefused, PolicyFile, statements_refused, text_refused, IsPlacement, HasNoRoom, IsTargetOf, IsTargetRefused, Edition}
 use Rattle.std.specs.List.{All}
 use Rattle.std.proofs.lemmas.List.Kept.{AllPairs-cons}
 use Rattle.embed_defs.specs.Canonical.{IsCanonical}
@@ -49,7 +49,7 @@ one-policy-refusal latest text code line d m (statements_refused es f h some is)
     let same : f ≡ g = same-fault latest text es fs f g h some is k some' is' in
     (ap code_of same, ap line_of same)
 
-none-refused-policy : (latest : Edition) (text : List ℕ) (j : Judged) (code line : ℕ) → IsPolicy latest text j → IsPolicyRefused latest text code line → ⊥
+none-refused-policy : (latest : Edition) (text : List ℕ) (j : PolicyFile) (code line : ℕ) → IsPolicy latest text j → IsPolicyRefused latest text code line → ⊥
 none-refused-policy latest text j code line p (text_refused _ _ h) = none-refused latest text j.entries code line p.has h
 none-refused-policy latest text j code line p (statements_refused fs g k some is) = none-faulty latest text j.entries fs g p.has p.accepted k some is
 
@@ -63,8 +63,8 @@ rising n [] up = λ i j d less within. absurd (omega arith)
 rising n (e ∷ es) up = AllPairs-cons (λ a b. a.0 < b.0) e es (later e.0 (suc e.0) es (omega arith) up.1) (rising (suc e.0) es up.1)
 
 -- a text gives only one policy
-same-judged : (latest : Edition) (text : List ℕ) (j k : Judged) → IsPolicy latest text j → IsPolicy latest text k → j ≡ k
-same-judged latest text j k p q =
+same-policy_file : (latest : Edition) (text : List ℕ) (j k : PolicyFile) → IsPolicy latest text j → IsPolicy latest text k → j ≡ k
+same-policy_file latest text j k p q =
     let statements : j.entries ≡ k.entries = Entries-one _ 1 _ j.entries k.entries p.has.entries q.has.entries in
     let accepted : AreAccepted k.entries = q.accepted in
     let own = subst (λ (es : List Entry). IsPolicy latest text (record { entries = es; policy = j.policy })) statements p in
@@ -72,7 +72,7 @@ same-judged latest text j k p q =
     λ i. record { entries = statements i; policy = policies i }
 
 pub policies_are_one : (latest : Edition) (text : List ℕ) → AreOne (IsPolicyRefused latest text) (IsPolicy latest text)
-policies_are_one latest text = record { one_refusal = one-policy-refusal latest text; one = same-judged latest text; no_both = none-refused-policy latest text }
+policies_are_one latest text = record { one_refusal = one-policy-refusal latest text; one = same-policy_file latest text; no_both = none-refused-policy latest text }
 
 -- ---- a target
 pub targets_are_one : (text : List ℕ) → AreOne (IsTargetRefused text) (IsTargetOf text)

@@ -2,6 +2,8 @@ pub mod Prelude
 pub mod LoadLaws
 pub mod ScriptFaults
 pub mod FollowLaws
+pub mod DecidedLaws
+pub mod PlacingLaws
 pub mod Inputs
 pub mod ViaInputs
 pub mod ViaLaws
@@ -10,11 +12,14 @@ pub mod TextFaults
 pub mod OneAnswer
 pub mod SomeAnswer
 pub mod AnswerLaws
-pub mod Unused
+pub mod NoRuns
 pub mod TapLaws
 pub mod CaptureLaws
 pub mod ForwardLaws
 pub mod WordLaws
 pub mod OfficeRoom
 pub mod SoakLaws
+pub mod JobLaws
+pub mod PreparedLaws
+pub mod RouteLaws
 pub mod SameReports

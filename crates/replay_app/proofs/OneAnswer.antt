@@ -1,7 +1,6 @@
 -- For given arguments and file contents there is only one correct output.
-use Rattle.replay_app.proofs.Prelude.{subst, sym, ℕ, List, ◌≡◌, ◌∙◌, Option, Bool, Err, Result, Ok, IfOk, OnOk, OnErr, Appended, AppendedPrefix, Stop, Policy, Resolved, Link, plain_rate, Laid, Target, topology_of, Answer, IsTold, laid_run, forward_run, IsPaced, watchers, script_pace, status_code, IsPlanned, planned, plan_answer, names_of, Pacing, forward, link, replay, script, via, check, direct, no_form, plan, soak, Status}
+use Rattle.replay_app.proofs.Prelude.{sym, ℕ, List, ◌≡◌, ◌∙◌, Policy, Resolved, Link, plain_rate, Laid, Target, topology_of, Answer, laid_run, forward_run, IsPaced, watchers, script_pace, IsPlanned, planned, plan_answer, names_of, Pacing, forward, link, replay, script, via, check, direct, no_form, plan, soak}
 use Rattle.report_core.specs.declared.fault.FaultKind.TheVariants as kind
-use Rattle.embed_plan.specs.Plan.{IsPlan}
 use Rattle.embed_plan.proofs.OnePlan.{one_plan}
 use Rattle.replay_app.specs.Laws.{HaveOneAnswer}
 use Rattle.tap_core.specs.Lists.{Entry}
@@ -16,15 +15,6 @@ one-planned policy target _ _ (planned fits text h) (planned others other k) =
     let same = one_plan policy target.arities target.above fits others text other h k in
     λ i. plan_answer (same.0 i) (same.1 i)
 
--- the text that is written for a plan
-pub planned_told : (policy : Policy) (target : Target) (fits : Bool) (text : List ℕ) → IsPlan policy target.arities target.above fits text → (old new : Option (List ℕ)) (r : Result Status Stop) →
-    IfOk r (λ s. status_code s ≡ (plan_answer fits text).status) → OnOk r (Appended old new (plan_answer fits text).text) → OnErr r (AppendedPrefix old new (plan_answer fits text).text) → IsTold (IsPlanned policy target) r old new
-planned_told policy target fits text is old new (Ok s) status whole part = record { whole = record { answer = plan_answer fits text; is = planned fits text is; status_is = status; text = whole }; part = tt }
-planned_told policy target fits text is old new (Err e) status whole part = record {
-  whole = tt;
-  part = λ b k. subst (λ (a : Answer). AppendedPrefix old new a.text) (one-planned policy target (plan_answer fits text) b (planned fits text is) k) part;
-}
-
 pub same-answer : (x a b : Answer) → a ≡ x → b ≡ x → a ≡ b
 same-answer x a b e f = e ∙ sym f
 
@@ -37,24 +27,24 @@ one-paced watching policy laid (forward rate) capture contents = same-answer (fo
 
 pub one-answer : HaveOneAnswer
 one-answer (replay latest p t c pacing) contents taps a b x y =
-    one-follows kind.Policy _ _ _ (policies_are_one latest (contents p)) (λ judged.
+    one-follows kind.Policy _ _ _ (policies_are_one latest (contents p)) (λ policy_file.
     one-follows kind.Target _ _ _ (targets_are_one (contents t)) (λ target.
-    one-follows kind.Size _ _ _ (rooms_are_one (topology_of judged.policy.policy.tree) target) (λ images.
-    one-paced (watchers pacing taps) judged.policy (record { images = images; arities = target.arities }) pacing (contents c) contents))) a b x y
-one-answer (check latest p) contents taps a b x y = one-follows kind.Policy _ _ _ (policies_are_one latest (contents p)) (λ judged. same-answer _) a b x y
+    one-follows kind.Size _ _ _ (rooms_are_one (topology_of policy_file.policy.policy.tree) target) (λ images.
+    one-paced (watchers pacing taps) policy_file.policy (record { images = images; arities = target.arities }) pacing (contents c) contents))) a b x y
+one-answer (check latest p) contents taps a b x y = one-follows kind.Policy _ _ _ (policies_are_one latest (contents p)) (λ policy_file. same-answer _) a b x y
 one-answer (plan latest p t) contents taps a b x y =
-    one-follows kind.Policy _ _ _ (policies_are_one latest (contents p)) (λ judged.
-    one-follows kind.Target _ _ _ (targets_are_one (contents t)) (λ target. one-planned judged.policy.policy target)) a b x y
+    one-follows kind.Policy _ _ _ (policies_are_one latest (contents p)) (λ policy_file.
+    one-follows kind.Target _ _ _ (targets_are_one (contents t)) (λ target. one-planned policy_file.policy.policy target)) a b x y
 one-answer (direct latest p c e) contents taps a b x y =
-    one-follows kind.Policy _ _ _ (policies_are_one latest (contents p)) (λ judged.
+    one-follows kind.Policy _ _ _ (policies_are_one latest (contents p)) (λ policy_file.
     one-follows kind.Script _ _ _ (scripts_are_one (contents e)) (λ steps. same-answer _)) a b x y
 one-answer (soak load) contents taps a b x y = one-soaked load a b x y
 one-answer (via latest p g m t c e) contents taps a b x y =
-    one-follows kind.Policy _ _ _ (policies_are_one latest (contents p)) (λ judged.
+    one-follows kind.Policy _ _ _ (policies_are_one latest (contents p)) (λ policy_file.
     one-follows kind.Tree _ _ _ (topologies_are_one (contents g)) (λ middle.
-    one-follows kind.Map _ _ _ (maps_are_one judged.policy.policy middle (contents m)) (λ tried.
-    one-unbroken (names_of judged.policy.policy) tried.fault _ (
+    one-follows kind.Map _ _ _ (maps_are_one policy_file.policy.policy middle (contents m)) (λ map_file.
+    one-unbroken (names_of policy_file.policy.policy) map_file.fault _ (
     one-follows kind.Target _ _ _ (targets_are_one (contents t)) (λ target.
-    one-follows kind.Size _ _ _ (carried_are_one judged.policy.policy tried.given middle target) (λ images.
+    one-follows kind.Size _ _ _ (carried_are_one policy_file.policy.policy map_file.given middle target) (λ images.
     one-follows kind.Script _ _ _ (scripts_are_one (contents e)) (λ steps. same-answer _))))))) a b x y
 one-answer no_form contents taps a b x y = same-answer _ a b x y

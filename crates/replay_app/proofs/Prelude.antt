@@ -62,13 +62,13 @@ pub use Rattle.replay_app.specs.Behind.{IsLeftOf, tap_list, UsesNoFabric}
 pub use Rattle.replay_app.specs.Follows.{IsRead, Follows, goes_on, stops}
 pub use Rattle.replay_app.specs.Named.{pacing_form, command_form}
 pub use Rattle.replay_app.specs.Output.{laid_run, IsOutput, forward_run, IsPaced, direct_run, watchers}
-pub use Rattle.replay_app.specs.Policies.{judged_of, IsPolicyRefused, IsPolicy, IsTextRefused, Judged, statements_refused, text_refused, entries_in, IsTextRead, checked, senses_of}
+pub use Rattle.replay_app.specs.Policies.{policy_file_of, IsPolicyRefused, IsPolicy, IsTextRefused, PolicyFile, statements_refused, text_refused, entries_in, IsTextRead, checked, senses_of}
 pub use Rattle.replay_app.specs.Scripts.{IsScriptRefused, OfLines, ending_status, lines_behind, script_pace, AlongScript}
 pub use Rattle.replay_app.specs.Soak.{soak_line, soak_target, IsSoaked, counted, soak_answer}
 pub use Rattle.replay_app.specs.Stages.{watching_in, BehindPolicy, BehindRoom, BehindTarget, BehindTargetText, BehindWords}
 pub use Rattle.replay_app.specs.Statuses.{status_code, IsOneOf, IsStop, forward_status, run_status, IsRefusal, forward_statuses, kind_status, pace_statuses, paced_statuses, run_statuses}
 pub use Rattle.replay_app.specs.Targets.{IsPlacement, HasNoRoom, IsTargetOf, IsTargetRefused, IsPlanned, planned, plan_answer}
-pub use Rattle.replay_app.specs.Via.{names_of, policy_edition, IsMapRefused, IsTreeRefused, unread, IsTried, pair_text, HasVerdict, IsCarried, NamesNodes, Unbroken, map_refusal, pair_line}
+pub use Rattle.replay_app.specs.Via.{names_of, policy_edition, IsMapRefused, IsTreeRefused, unread, IsMapFile, pair_text, HasVerdict, IsCarried, NamesNodes, Unbroken, map_refusal, pair_line}
 pub use Rattle.replay_app.specs.Words.{Pacing, forward, link, replay, script, via, check, direct, no_form, plan, soak, pacing_words, AreTold, Form, named_in, texts}
 pub use Rattle.replay_app.specs.declared.refusal.Read.TheVariants.{Refused}
 pub use Rattle.replay_app.specs.declared.refusal.Refusal.{Refusal}

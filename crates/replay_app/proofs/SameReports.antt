@@ -1,5 +1,5 @@
 -- A run has the same report with a map and without one.
-use Rattle.replay_app.proofs.Prelude.{subst, sym, ℕ, List, ◌≡◌, refl, ap, ◌∙◌, [], ◌∷◌, Option, Some, None, append-nil, false, Step, Resolved, paced_answer, shown_by, Ending, BadCapture, PastLast, Whole, Laid, Shown, named_entries, is_named, none_named, Named, Target, topology_of, Topology, Tree, Address, Answer, refusal, Follows, laid_run, direct_run, IsPolicyRefused, IsPolicy, Judged, lines_behind, script_pace, AlongScript, BehindPolicy, BehindRoom, BehindTarget, BehindTargetText, IsPlacement, HasNoRoom, IsTargetOf, IsTargetRefused, script}
+use Rattle.replay_app.proofs.Prelude.{subst, sym, ℕ, List, ◌≡◌, refl, ap, ◌∙◌, [], ◌∷◌, Option, Some, None, append-nil, false, Step, Resolved, paced_answer, shown_by, Ending, BadCapture, PastLast, Whole, Laid, Shown, named_entries, is_named, none_named, Named, Target, topology_of, Topology, Tree, Address, Answer, refusal, Follows, laid_run, direct_run, IsPolicyRefused, IsPolicy, PolicyFile, lines_behind, script_pace, AlongScript, BehindPolicy, BehindRoom, BehindTarget, BehindTargetText, IsPlacement, HasNoRoom, IsTargetOf, IsTargetRefused, script}
 use Rattle.report_core.specs.declared.fault.FaultKind.TheVariants as kind
 use Rattle.sched_defs.specs.Pace.{Pace}
 use Rattle.tap_core.specs.Lists.{Entry}
@@ -55,19 +55,19 @@ along-script named policy laid text capture taps a b x y =
     a x
 
 pub replay_reports_what_direct_reports-holds : ReplayReportsWhatDirectReports
-replay_reports_what_direct_reports-holds latest p t c e named contents taps judged target policy is embeds a b x y =
+replay_reports_what_direct_reports-holds latest p t c e named contents taps policy_file target policy is embeds a b x y =
     let policies = policies_are_one latest (contents p) in
-    let tree : Topology = topology_of judged.policy.policy.tree in
+    let tree : Topology = topology_of policy_file.policy.policy.tree in
     let watching : List Entry = named_entries named taps in
-    let behind_policy : Judged → Answer → Type 0 = λ j. BehindTargetText watching j.policy t (script e named) c contents in
-    let behind_target : Target → Answer → Type 0 = λ u. BehindTarget watching judged.policy u (script e named) c contents in
-    let behind_room : Tree Address → Answer → Type 0 = λ images. BehindRoom watching judged.policy (record { images = images; arities = target.arities }) (script e named) c contents in
-    let direct_behind : Judged → Answer → Type 0 = λ j. BehindPolicy j.policy (contents e) (contents c) in
+    let behind_policy : PolicyFile → Answer → Type 0 = λ j. BehindTargetText watching j.policy t (script e named) c contents in
+    let behind_target : Target → Answer → Type 0 = λ u. BehindTarget watching policy_file.policy u (script e named) c contents in
+    let behind_room : Tree Address → Answer → Type 0 = λ images. BehindRoom watching policy_file.policy (record { images = images; arities = target.arities }) (script e named) c contents in
+    let direct_behind : PolicyFile → Answer → Type 0 = λ j. BehindPolicy j.policy (contents e) (contents c) in
     let room : (d : Answer) → Follows kind.Size (HasNoRoom tree target) (IsPlacement tree target) behind_room d → ReportsTheSame named d b =
     each-follows kind.Size (HasNoRoom tree target) (IsPlacement tree target) behind_room (λ d. ReportsTheSame named d b)
     (λ code place none. absurd (none.0 embeds))
-    (λ images d placed m. accepted-each kind.Policy (IsPolicyRefused latest (contents p)) (IsPolicy latest (contents p)) direct_behind policies (ReportsTheSame named d) judged policy
-    (λ f n. along-script named judged.policy (record { images = images; arities = target.arities }) (contents e) (contents c) taps d f m n) b y) in
-    accepted-each kind.Policy (IsPolicyRefused latest (contents p)) (IsPolicy latest (contents p)) behind_policy policies (λ d. ReportsTheSame named d b) judged policy
+    (λ images d placed m. accepted-each kind.Policy (IsPolicyRefused latest (contents p)) (IsPolicy latest (contents p)) direct_behind policies (ReportsTheSame named d) policy_file policy
+    (λ f n. along-script named policy_file.policy (record { images = images; arities = target.arities }) (contents e) (contents c) taps d f m n) b y) in
+    accepted-each kind.Policy (IsPolicyRefused latest (contents p)) (IsPolicy latest (contents p)) behind_policy policies (λ d. ReportsTheSame named d b) policy_file policy
     (accepted-each kind.Target (IsTargetRefused (contents t)) (IsTargetOf (contents t)) behind_target (targets_are_one (contents t)) (λ d. ReportsTheSame named d b) target is room)
     a x

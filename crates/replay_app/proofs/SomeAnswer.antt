@@ -1,5 +1,5 @@
 -- For all arguments and file contents there is a correct output.
-use Rattle.replay_app.proofs.Prelude.{subst, sym, ℕ, List, ◌≡◌, refl, inr, length, inl, heights_in_range-holds, HasEmbedding, IsEmbedding, image_map, AreWide, levels, IsInRange, IsScript, Step, a_policy, Policy, AreAccepted, line_of, Resolved, most_text, HasEntries, Fault, not_text, shaping, syntax_fault, Link, plain_rate, Laid, Target, topology_of, Topology, complete, Tree, Address, Answer, laid_run, forward_run, IsPaced, watchers, IsPolicyRefused, IsPolicy, Judged, statements_refused, text_refused, soak_target, IsPlacement, HasNoRoom, IsTargetOf, IsTargetRefused, IsPlanned, planned, plan_answer, names_of, Pacing, replay, via, check, direct, no_form, plan, soak, Edition}
+use Rattle.replay_app.proofs.Prelude.{subst, sym, ℕ, List, ◌≡◌, refl, inr, length, inl, heights_in_range-holds, HasEmbedding, IsEmbedding, image_map, AreWide, levels, IsInRange, IsScript, Step, a_policy, Policy, AreAccepted, line_of, Resolved, most_text, HasEntries, Fault, not_text, shaping, syntax_fault, Link, plain_rate, Laid, Target, topology_of, Topology, complete, Tree, Address, Answer, laid_run, forward_run, IsPaced, watchers, IsPolicyRefused, IsPolicy, PolicyFile, statements_refused, text_refused, soak_target, IsPlacement, HasNoRoom, IsTargetOf, IsTargetRefused, IsPlanned, planned, plan_answer, names_of, Pacing, replay, via, check, direct, no_form, plan, soak, Edition}
 use Rattle.std.proofs.lemmas.Bool.{cases_lt}
 use Rattle.embed_defs.proofs.RoomOrNone.{there_or_none}
 use Rattle.target_core.proofs.TextAnswers.{an_answer-holds}
@@ -26,7 +26,7 @@ use Rattle.replay_app.proofs.OfficeRoom.{in-range}
 use Rattle.replay_app.proofs.SoakLaws.{some-soaked}
 
 -- ---- each input is rejected or accepted
-policy_of_text : (latest : Edition) (text : List ℕ) → ((j : Judged) → IsPolicy latest text j → ⊥) → ((code line : ℕ) → IsPolicyRefused latest text code line → ⊥) → (es : List Entry) → HasEntries latest text es → ⊥
+policy_of_text : (latest : Edition) (text : List ℕ) → ((j : PolicyFile) → IsPolicy latest text j → ⊥) → ((code line : ℕ) → IsPolicyRefused latest text code line → ⊥) → (es : List Entry) → HasEntries latest text es → ⊥
 policy_of_text latest text none none' es has =
     let sound = sound_entries latest text es has in
     let are : AreAccepted es = accepted es (λ f some is. none' (code_of f) (line_of f) (statements_refused es f has some is)) in
@@ -38,7 +38,7 @@ refused_at latest text n not_text first none' = none' 22 n (text_refused 22 n (a
 refused_at latest text n syntax_fault first none' = none' 23 n (text_refused 23 n (at_fault (fault.Syntax n) first))
 refused_at latest text n shaping first none' = none' 24 n (text_refused 24 n (at_fault (fault.Shaping n) first))
 
-pub read_policies : (latest : Edition) (text : List ℕ) → ((j : Judged) → IsPolicy latest text j → ⊥) → ((code line : ℕ) → IsPolicyRefused latest text code line → ⊥) → ⊥
+pub read_policies : (latest : Edition) (text : List ℕ) → ((j : PolicyFile) → IsPolicy latest text j → ⊥) → ((code line : ℕ) → IsPolicyRefused latest text code line → ⊥) → ⊥
 read_policies latest text none none' = elim (cases_lt most_text (length text)) [
   | inl long ↦ none' 21 0 (text_refused 21 0 (at_fault fault.TooLong long))
   | inr short ↦ an_answer latest text short (policy_of_text latest text none none') (λ n f first. refused_at latest text n f first none')
@@ -85,25 +85,25 @@ some-paced watching policy laid (words.forward rate) capture contents = exactly 
 
 pub some-answer : HaveAnAnswer
 some-answer (replay latest p t c pacing) contents taps =
-    some-follows kind.Policy _ _ _ (read_policies latest (contents p)) (λ judged policy.
+    some-follows kind.Policy _ _ _ (read_policies latest (contents p)) (λ policy_file policy.
     some-follows kind.Target _ _ _ (read_targets (contents t)) (λ target is.
-    some-follows kind.Size _ _ _ (read_rooms (topology_of judged.policy.policy.tree) target (in_range-holds (contents t) target.arities target.above is)) (λ images placed.
-    some-paced (watchers pacing taps) judged.policy (record { images = images; arities = target.arities }) pacing (contents c) contents)))
-some-answer (check latest p) contents taps = some-follows kind.Policy _ _ _ (read_policies latest (contents p)) (λ judged policy. exactly _)
+    some-follows kind.Size _ _ _ (read_rooms (topology_of policy_file.policy.policy.tree) target (in_range-holds (contents t) target.arities target.above is)) (λ images placed.
+    some-paced (watchers pacing taps) policy_file.policy (record { images = images; arities = target.arities }) pacing (contents c) contents)))
+some-answer (check latest p) contents taps = some-follows kind.Policy _ _ _ (read_policies latest (contents p)) (λ policy_file policy. exactly _)
 some-answer (plan latest p t) contents taps =
-    some-follows kind.Policy _ _ _ (read_policies latest (contents p)) (λ judged policy.
-    some-follows kind.Target _ _ _ (read_targets (contents t)) (λ target is. a_plan_of judged.policy.policy target (in_range-holds (contents t) target.arities target.above is)))
+    some-follows kind.Policy _ _ _ (read_policies latest (contents p)) (λ policy_file policy.
+    some-follows kind.Target _ _ _ (read_targets (contents t)) (λ target is. a_plan_of policy_file.policy.policy target (in_range-holds (contents t) target.arities target.above is)))
 some-answer (direct latest p c e) contents taps =
-    some-follows kind.Policy _ _ _ (read_policies latest (contents p)) (λ judged policy.
+    some-follows kind.Policy _ _ _ (read_policies latest (contents p)) (λ policy_file policy.
     some-follows kind.Script _ _ _ (read_scripts (contents e)) (λ steps script. exactly _))
 some-answer (soak load) contents taps = some-soaked load (λ policy room none. read_rooms (topology_of policy.policy.tree) soak_target in-range none (λ code place no. no.0 room))
 some-answer (via latest p g m t c e) contents taps =
-    some-follows kind.Policy _ _ _ (read_policies latest (contents p)) (λ judged policy.
+    some-follows kind.Policy _ _ _ (read_policies latest (contents p)) (λ policy_file policy.
     some-follows kind.Tree _ _ _ (read_topologies (contents g)) (λ middle is_tree.
-    some-follows kind.Map _ _ _ (read_maps judged.policy.policy middle (contents m)) (λ tried is_tried.
-    some-unbroken (names_of judged.policy.policy) tried.fault _ (
+    some-follows kind.Map _ _ _ (read_maps policy_file.policy.policy middle (contents m)) (λ map_file is_tried.
+    some-unbroken (names_of policy_file.policy.policy) map_file.fault _ (
     some-follows kind.Target _ _ _ (read_targets (contents t)) (λ target is.
-    some-follows kind.Size _ _ _ (read_carried judged.policy.policy tried.given middle target (map_fits judged.policy.policy middle (contents m) tried is_tried)
+    some-follows kind.Size _ _ _ (read_carried policy_file.policy.policy map_file.given middle target (map_fits policy_file.policy.policy middle (contents m) map_file is_tried)
     (read_rooms middle target (in_range-holds (contents t) target.arities target.above is))) (λ images carried.
     some-follows kind.Script _ _ _ (read_scripts (contents e)) (λ steps script. exactly _)))))))
 some-answer no_form contents taps = exactly _

@@ -1,9 +1,11 @@
--- The state in which taps are left after a run that they watched.
-use Rattle.replay_app.proofs.Prelude.{subst, ℕ, List, ◌≡◌, refl, ap, Option, Some, None, on_ok_weaker, Result, Ghosts, Stop, Resolved, paced_answer, shown_by, HaveWatched, answer_over, Ending, BadCapture, PastLast, Whole, Shown, named_entries, left_after, Sight, Watches, Named, IsLeft, IsLeftOf, tap_list, IsOutput, OfLines, lines_behind, watching_in, BehindWords, Pacing, forward, link, replay, script, Status, Edition}
+-- The lines of taps that watched a run, and the state in which they are left.
+use Rattle.replay_app.proofs.Prelude.{subst, ℕ, List, ◌≡◌, refl, ap, Option, Some, None, on_ok_weaker, Result, Ghosts, Stop, Resolved, shown_by, HaveWatched, answer_over, paced_answer, Ending, BadCapture, PastLast, Whole, Shown, named_entries, left_after, Sight, Watches, Named, IfSome, Laid, laid_run, Answer, IsLeft, HoldsRun, OfLines, lines_behind, watching_in, Status}
 use Rattle.pcap_defs.specs.Contents.{FileContents, no_capture, holds}
 use Rattle.pcapng_defs.specs.NgContents.{in_file}
 use Rattle.sched_defs.specs.Pace.{Pace}
 use Rattle.tap_core.specs.Lists.{Entry}
+use Rattle.replay_app.specs.Jobs.{taps_after, IsLeftSo}
+use Rattle.replay_app.proofs.FollowLaws.{unchanged, always_ok, always_err, exactly_done}
 
 -- ---- lines
 lines_by : (e : Ending) (shown : List Shown) (before after : Sight) (P : List ℕ → Type 0) → Watches shown before after → OfLines e after P → P (lines_behind e (watching_in before) (Some shown))
@@ -25,40 +27,44 @@ pub lines_told : (policy : Resolved) (pace : Pace) (file : List ℕ) (e : Ending
 lines_told policy pace file = lines_over policy pace (in_file file)
 
 -- ---- the list
-pub taps_left : (latest : Edition) (p t c e : List ℕ) (named : Named) (shown : Option (List Shown)) (before after : Sight) → before.named ≡ named → HaveWatched shown before after
-    → after.taps ≡ tap_list (replay latest p t c (script e named)) shown before.taps
-taps_left latest p t c e named None before after same watched = ap (λ (s : Sight). s.taps) watched
-taps_left latest p t c e named (Some shown) before after same watched = subst (λ (n : Named). after.taps ≡ left_after shown (named_entries n before.taps)) same watched.left
+taps_left : (named : Named) (shown : Option (List Shown)) (before after : Sight) → before.named ≡ named → HaveWatched shown before after → after.taps ≡ taps_after named shown before.taps
+taps_left named None before after same watched = ap (λ (s : Sight). s.taps) watched
+taps_left named (Some shown) before after same watched = subst (λ (n : Named). after.taps ≡ left_after shown (named_entries n before.taps)) same watched.left
 
--- the fabric and the taps after a run that a script paces
-pub script_left : {F : Type 0} (fabrics : Ghosts F) (latest : Edition) (p t c e : List ℕ) (named : Named) (contents : List ℕ → List ℕ) (r : Result Status Stop) (old new : F) (before after : Sight) (taps left : List Entry)
-    → before.named ≡ named → before.taps ≡ taps → after.taps ≡ left
-    → IsLeft fabrics (BehindWords (watching_in before) latest p t (script e named) c contents) r old new before after
-    → IsLeftOf fabrics (replay latest p t c (script e named)) contents r old new taps left
-script_left fabrics latest p t c e named contents r old new before after taps left same first last is =
-    let own : IsLeft fabrics (IsOutput (replay latest p t c (script e named)) contents before.taps) r old new before after =
-    subst (λ (n : Named). IsLeft fabrics (BehindWords (named_entries n before.taps) latest p t (script e named) c contents) r old new before after) same is in
-    let all : IsLeftOf fabrics (replay latest p t c (script e named)) contents r old new before.taps after.taps = record {
-      whole = on_ok_weaker r (λ each a is. let both = each a is in record { fabric = both.fabric; taps = taps_left latest p t c e named a.shown before after same both.taps }) own.whole;
-      part = own.part;
+-- the fabric and the taps after a run that taps of these kinds watched
+watched_left : {F : Type 0} (fabrics : Ghosts F) (output : Answer → Type 0) (r : Result Status Stop) (old new : F) (before after : Sight) (named : Named) (taps left : List Entry)
+    → before.named ≡ named → before.taps ≡ taps → after.taps ≡ left → IsLeft fabrics output r old new before after → IsLeftSo fabrics (taps_after named) output r old new taps left
+watched_left fabrics output r old new before after named taps left same first last is =
+    let all : IsLeftSo fabrics (taps_after named) output r old new before.taps after.taps = record {
+      whole = on_ok_weaker r (λ each a o. let both = each a o in record { fabric = both.fabric; taps = taps_left named a.shown before after same both.taps }) is.whole;
+      part = is.part;
     } in
-    subst (λ (ts : List Entry). IsLeftOf fabrics (replay latest p t c (script e named)) contents r old new taps ts) last
-    (subst (λ (ts : List Entry). IsLeftOf fabrics (replay latest p t c (script e named)) contents r old new ts after.taps) first all)
+    subst (λ (ts : List Entry). IsLeftSo fabrics (taps_after named) output r old new taps ts) last
+    (subst (λ (ts : List Entry). IsLeftSo fabrics (taps_after named) output r old new ts after.taps) first all)
 
--- if a link paces the run, no tap changes
-abbrev WatchesNothing : Pacing → Type 0
-WatchesNothing (script e named) = ⊥
-WatchesNothing pacing = Unit {0}
+-- a run over a capture whose content is known
+module _ {F : Type 0} (fabrics : Ghosts F) (policy : Resolved) (laid : Laid) (pace : Pace) (r : Result Status Stop) (old new : F) (before after : Sight) where
+  -- the fabric alone
+  pub fabric_left : (watching : List Entry) (told : Option (List ℕ)) → IfSome told (λ file. IsLeft fabrics (λ a. a ≡ laid_run policy laid pace file watching) r old new before after)
+      → IfSome told (λ file. HoldsRun fabrics (λ a. a ≡ laid_run policy laid pace file watching) r old new)
+  fabric_left watching None left = tt
+  fabric_left watching (Some file) left = record { whole = on_ok_weaker r (λ each a is. (each a is).fabric) left.whole; part = left.part }
 
-untouched : (latest : Edition) (p t c : List ℕ) (pacing : Pacing) (shown : Option (List Shown)) (taps : List Entry) → WatchesNothing pacing → taps ≡ tap_list (replay latest p t c pacing) shown taps
-untouched latest p t c (script e named) shown taps none = absurd none
-untouched latest p t c (link rate) shown taps none = refl
-untouched latest p t c (forward rate) shown taps none = refl
+  pub watched_so : (named : Named) (taps rest : List Entry) → before.named ≡ named → before.taps ≡ taps → after.taps ≡ rest → (told : Option (List ℕ))
+      → IfSome told (λ file. IsLeft fabrics (λ a. a ≡ laid_run policy laid pace file (watching_in before)) r old new before after)
+      → IfSome told (λ file. IsLeftSo fabrics (taps_after named) (λ a. a ≡ laid_run policy laid pace file (named_entries named taps)) r old new taps rest)
+  watched_so named taps rest same first last None left = tt
+  watched_so named taps rest same first last (Some file) left =
+      let watching : watching_in before ≡ named_entries named taps = rw (same, first) refl in
+      subst (λ (es : List Entry). IsLeftSo fabrics (taps_after named) (λ a. a ≡ laid_run policy laid pace file es) r old new taps rest) watching
+      (watched_left fabrics (λ a. a ≡ laid_run policy laid pace file (watching_in before)) r old new before after named taps rest same first last left)
 
-pub link_left : {F : Type 0} (fabrics : Ghosts F) (latest : Edition) (p t c : List ℕ) (pacing : Pacing) (contents : List ℕ → List ℕ) (taps : List Entry) (r : Result Status Stop) (old new : F) (before after : Sight) → WatchesNothing pacing
-    → IsLeft fabrics (IsOutput (replay latest p t c pacing) contents taps) r old new before after
-    → IsLeftOf fabrics (replay latest p t c pacing) contents r old new taps taps
-link_left fabrics latest p t c pacing contents taps r old new before after none left = record {
-  whole = on_ok_weaker r (λ each a is. record { fabric = (each a is).fabric; taps = untouched latest p t c pacing a.shown taps none }) left.whole;
-  part = left.part;
-}
+-- taps that were shown nothing
+pub untapped : {F : Type 0} (fabrics : Ghosts F) (output : Answer → Type 0) (r : Result Status Stop) (old new : F) (taps : List Entry)
+    → HoldsRun fabrics output r old new → IsLeftSo fabrics (λ shown ts. ts) output r old new taps taps
+untapped fabrics output r old new taps held = record { whole = on_ok_weaker r (λ each a is. record { fabric = each a is; taps = refl }) held.whole; part = held.part }
+
+-- nothing ran
+pub nothing_left : {F : Type 0} (fabrics : Ghosts F) (x : Answer) (r : Result Status Stop) (f : F) (taps : List Entry) → x.run ≡ None → IsLeftSo fabrics (λ shown ts. ts) (λ a. a ≡ x) r f f taps taps
+nothing_left fabrics x r f taps none = untapped fabrics (λ a. a ≡ x) r f f taps
+    (exactly_done x r _ _ (always_ok r (rw none (unchanged fabrics f))) (always_err r (rw none (unchanged fabrics f))))

@@ -1,6 +1,6 @@
 -- The inputs of a run along a given map: each is rejected with only one code and position, or
 -- accepted as only one value; and each is rejected or accepted.
-use Rattle.replay_app.proofs.Prelude.{subst, sym, ℕ, List, ◌≡◌, refl, ap, ◌∙◌, [], Option, Some, None, arith, inr, length, map, get_or-map, length-map, Err, Result, Ok, image_map, count, addresses, IsGivenFor, IsVerdict, image_of, Breaks, outside, prefix, root, Fits, IsMapAnswer, IsTreeText, MapFault, Given, Policy, name_at, Target, topology_of, Topology, Tree, Address, nodes, IsPlacement, HasNoRoom, names_of, policy_edition, IsMapRefused, IsTreeRefused, unread, IsTried, IsCarried, NamesNodes}
+use Rattle.replay_app.proofs.Prelude.{subst, sym, ℕ, List, ◌≡◌, refl, ap, ◌∙◌, [], Option, Some, None, arith, inr, length, map, get_or-map, length-map, Err, Result, Ok, image_map, count, addresses, IsGivenFor, IsVerdict, image_of, Breaks, outside, prefix, root, Fits, IsMapAnswer, IsTreeText, MapFault, Given, Policy, name_at, Target, topology_of, Topology, Tree, Address, nodes, IsPlacement, HasNoRoom, names_of, policy_edition, IsMapRefused, IsTreeRefused, unread, IsMapFile, IsCarried, NamesNodes}
 use Rattle.tree_defs.proofs.Shapes.{nodes-topology}
 use Rattle.embed_defs.specs.Preorder.{number_of, tree_in, HoldsImages}
 use Rattle.embed_defs.proofs.PreorderTrees.{trees_in_preorder_hold_the_images}
@@ -16,7 +16,7 @@ use Rattle.mapcheck_core.proofs.SomeVerdict.{some_verdict}
 use Rattle.mapcheck_core.proofs.TextAnswers.{some_map, some_tree}
 use Rattle.mapcheck_core.proofs.TreeAnswers.{IsTreeText-one, IsTreeFault-one, IsTreeText-IsTreeFault}
 use Rattle.replay_app.specs.Via.{at_fault}
-use Rattle.replay_app.specs.declared.maps.Tried.{Tried}
+use Rattle.replay_app.specs.declared.maps.MapFile.{MapFile}
 use Rattle.replay_app.proofs.FollowLaws.{AreOne}
 use Rattle.replay_app.proofs.Inputs.{rooms_are_one}
 
@@ -49,28 +49,28 @@ module _ (policy : Policy) (middle : Topology) (text : List ℕ) where
       let one : f ≡ g = cc in
       (ap code_of one, ap place_of one)
 
-  same-tried : (t u : Tried) → IsTried policy middle text t → IsTried policy middle text u → t ≡ u
-  same-tried t u h k =
+  same-map_file : (t u : MapFile) → IsMapFile policy middle text t → IsMapFile policy middle text u → t ≡ u
+  same-map_file t u h k =
       let same : Ok t.given ≡ Ok u.given = IsMapAnswer-one (policy_edition policy) text (names_of policy) (Ok t.given) (Ok u.given) h.read k.read in
       let given : t.given ≡ u.given = cc in
       let fault : t.fault ≡ u.fault = one-verdict (topology_of policy.tree) middle u.given t.fault u.fault
       (subst (λ (g : Given). IsVerdict (topology_of policy.tree) middle g t.fault) given h.verdict) k.verdict in
       λ i. record { given = given i; fault = fault i }
 
-  none-refused-map : (t : Tried) (code place : ℕ) → IsTried policy middle text t → IsMapRefused policy text code place → ⊥
+  none-refused-map : (t : MapFile) (code place : ℕ) → IsMapFile policy middle text t → IsMapRefused policy text code place → ⊥
   none-refused-map t code place h (unread f k) =
       let wrong : Ok t.given ≡ Err f = IsMapAnswer-one (policy_edition policy) text (names_of policy) (Ok t.given) (Err f) h.read k in
       cc
 
-  pub maps_are_one : AreOne (IsMapRefused policy text) (IsTried policy middle text)
-  maps_are_one = record { one_refusal = one-map-refusal; one = same-tried; no_both = none-refused-map }
+  pub maps_are_one : AreOne (IsMapRefused policy text) (IsMapFile policy middle text)
+  maps_are_one = record { one_refusal = one-map-refusal; one = same-map_file; no_both = none-refused-map }
 
-  by_answer : ((t : Tried) → IsTried policy middle text t → ⊥) → ((code place : ℕ) → IsMapRefused policy text code place → ⊥) → (r : Result Given MapFault) → IsMapAnswer (policy_edition policy) text (names_of policy) r → ⊥
+  by_answer : ((t : MapFile) → IsMapFile policy middle text t → ⊥) → ((code place : ℕ) → IsMapRefused policy text code place → ⊥) → (r : Result Given MapFault) → IsMapAnswer (policy_edition policy) text (names_of policy) r → ⊥
   by_answer none none' (Ok g) is =
       some_verdict (topology_of policy.tree) middle g (λ v verdict. none (record { given = g; fault = v }) (record { read = is; verdict = verdict }))
   by_answer none none' (Err f) is = none' (code_of f) (place_of f) (unread f is)
 
-  pub read_maps : ((t : Tried) → IsTried policy middle text t → ⊥) → ((code place : ℕ) → IsMapRefused policy text code place → ⊥) → ⊥
+  pub read_maps : ((t : MapFile) → IsMapFile policy middle text t → ⊥) → ((code place : ℕ) → IsMapRefused policy text code place → ⊥) → ⊥
   read_maps none none' = some_map (policy_edition policy) text (names_of policy) (by_answer none none')
 
 -- there is a name for each node
@@ -81,7 +81,7 @@ pub given_fits : (policy : Policy) (g : Given) → Fits (names_of policy) g → 
 given_fits policy g fits = record { images = fits.images ∙ names_fit policy; lines = fits.lines ∙ names_fit policy }
 
 -- a map that is read has an image and a line number for each node
-pub map_fits : (policy : Policy) (middle : Topology) (text : List ℕ) (t : Tried) → IsTried policy middle text t → IsGivenFor (topology_of policy.tree) t.given
+pub map_fits : (policy : Policy) (middle : Topology) (text : List ℕ) (t : MapFile) → IsMapFile policy middle text t → IsGivenFor (topology_of policy.tree) t.given
 map_fits policy middle text t h = given_fits policy t.given (fits_answer (policy_edition policy) text (names_of policy) (Ok t.given) (inr h.read))
 
 -- the nodes that a broken clause names exist

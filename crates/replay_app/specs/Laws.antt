@@ -9,7 +9,7 @@ use Rattle.tap_core.specs.Names.{none_named}
 use Rattle.tap_core.specs.declared.watch.Named.{Named}
 use Rattle.replay_app.specs.Answer.{Answer}
 use Rattle.replay_app.specs.Output.{IsOutput}
-use Rattle.replay_app.specs.Policies.{Judged, IsPolicy}
+use Rattle.replay_app.specs.Policies.{PolicyFile, IsPolicy}
 use Rattle.replay_app.specs.Targets.{IsTargetOf}
 use Rattle.replay_app.specs.Words.{Form, replay, direct, script}
 
@@ -32,6 +32,6 @@ pub record ReportsTheSame (named : Named) (through direct : Answer) : Type 0 whe
 -- if some map embeds the policy's tree into the target, `replay` reports what `direct` reports for
 -- the same policy, capture and script
 abbrev pub ReplayReportsWhatDirectReports : Type 0
-ReplayReportsWhatDirectReports = (latest : Edition) (p t c e : List ℕ) (named : Named) (contents : List ℕ → List ℕ) (taps : List Entry) (judged : Judged) (target : Target)
-    → IsPolicy latest (contents p) judged → IsTargetOf (contents t) target → HasEmbedding (topology_of judged.policy.policy.tree) (complete target.arities)
+ReplayReportsWhatDirectReports = (latest : Edition) (p t c e : List ℕ) (named : Named) (contents : List ℕ → List ℕ) (taps : List Entry) (policy_file : PolicyFile) (target : Target)
+    → IsPolicy latest (contents p) policy_file → IsTargetOf (contents t) target → HasEmbedding (topology_of policy_file.policy.policy.tree) (complete target.arities)
     → (a b : Answer) → IsOutput (replay latest p t c (script e named)) contents taps a → IsOutput (direct latest p c e) contents taps b → ReportsTheSame named a b

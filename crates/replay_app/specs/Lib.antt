@@ -8,6 +8,10 @@ pub mod Scripts
 pub mod Soak
 pub mod Via
 pub mod Output
+pub mod Decided
+pub mod Placing
+pub mod Routes
+pub mod Jobs
 pub mod Stages
 pub mod Behind
 pub mod Ends

@@ -60,28 +60,28 @@ IsPaced watching policy laid (forward rate) capture contents = λ b. b ≡ forwa
 -- follow the policy, and the target needs room for the topology. A generated load has no input.
 abbrev pub IsOutput : Form → (List ℕ → List ℕ) → List Entry → Answer → Type 0
 IsOutput (replay latest p t c pacing) contents taps a =
-    UnderPolicy latest (contents p) (λ judged.
+    UnderPolicy latest (contents p) (λ policy_file.
     ForTarget (contents t) (λ target.
-    WithRoom (topology_of judged.policy.policy.tree) target (λ laid.
-    IsPaced (watchers pacing taps) judged.policy laid pacing (contents c) contents))) a
+    WithRoom (topology_of policy_file.policy.policy.tree) target (λ laid.
+    IsPaced (watchers pacing taps) policy_file.policy laid pacing (contents c) contents))) a
 IsOutput (direct latest p c e) contents taps a =
-    UnderPolicy latest (contents p) (λ judged.
+    UnderPolicy latest (contents p) (λ policy_file.
     AlongScript (contents e) (λ steps b.
-    b ≡ direct_run judged.policy (script_pace steps) (contents c))) a
+    b ≡ direct_run policy_file.policy (script_pace steps) (contents c))) a
 IsOutput (plan latest p t) contents taps a =
-    UnderPolicy latest (contents p) (λ judged.
+    UnderPolicy latest (contents p) (λ policy_file.
     ForTarget (contents t) (λ target.
-    IsPlanned judged.policy.policy target)) a
-IsOutput (check latest p) contents taps a = UnderPolicy latest (contents p) (λ judged b. b ≡ checked judged) a
+    IsPlanned policy_file.policy.policy target)) a
+IsOutput (check latest p) contents taps a = UnderPolicy latest (contents p) (λ policy_file b. b ≡ checked policy_file) a
 IsOutput (soak load) contents taps a = IsSoaked load a
 IsOutput (via latest p g m t c e) contents taps a =
-    UnderPolicy latest (contents p) (λ judged.
+    UnderPolicy latest (contents p) (λ policy_file.
     ForTopology (contents g) (λ middle.
-    ForMap judged.policy.policy middle (contents m) (λ given.
+    ForMap policy_file.policy.policy middle (contents m) (λ given.
     ForTarget (contents t) (λ target.
-    WithRoomAlong judged.policy.policy given middle target (λ laid.
+    WithRoomAlong policy_file.policy.policy given middle target (λ laid.
     AlongScript (contents e) (λ steps b.
-    b ≡ laid_run judged.policy laid (script_pace steps) (contents c) [])))))) a
+    b ≡ laid_run policy_file.policy laid (script_pace steps) (contents c) [])))))) a
 IsOutput no_form contents taps a = a ≡ refusal Words 0 0
 
 -- ---- the text written

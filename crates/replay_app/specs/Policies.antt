@@ -18,7 +18,7 @@ use Rattle.policy_rules.specs.declared.fault.PolicyFault.TheVariants.{NoMemory}
 use Rattle.replay_app.specs.Answer.{Answer, text_alone}
 use Rattle.replay_app.specs.Follows.{Follows, IsRead}
 use Rattle.replay_app.specs.declared.refusal.Read.{Read}
-use Rattle.replay_app.specs.declared.policies.Judged as code
+use Rattle.replay_app.specs.declared.policies.PolicyFile as code
 
 -- the statements, without their line numbers
 abbrev pub senses_of : List Entry → List Sense
@@ -40,31 +40,31 @@ pub data IsPolicyRefused (latest : Edition) (text : List ℕ) : ℕ → ℕ → 
   statements_refused : (es : List Entry) (f : PolicyFault) → HasEntries latest text es → f ≢ NoMemory → IsFault es f → IsPolicyRefused latest text (code_of f) (line_of f)
 
 -- statements, and the policy that they give
-pub record Judged : Type 0 where
+pub record PolicyFile : Type 0 where
   pub entries : List Entry
   pub policy : Resolved
 
-abbrev pub judged_of : code.Judged → Judged
-judged_of j = record { entries = entries_in j.lines; policy = j.policy }
+abbrev pub policy_file_of : code.PolicyFile → PolicyFile
+policy_file_of j = record { entries = entries_in j.lines; policy = j.policy }
 
 -- for a reader of the editions up to `latest`, the text has these statements, they are accepted, and
 -- they give this policy
-pub record IsPolicy (latest : Edition) (text : List ℕ) (j : Judged) : Type 0 where
+pub record IsPolicy (latest : Edition) (text : List ℕ) (j : PolicyFile) : Type 0 where
   pub has : HasEntries latest text j.entries
   pub accepted : AreAccepted j.entries
   pub gives : IsResolved j.entries j.policy
 
 -- outputs that depend on the text of a policy
-abbrev pub UnderPolicy : Edition → List ℕ → (Judged → Answer → Type 0) → Answer → Type 0
+abbrev pub UnderPolicy : Edition → List ℕ → (PolicyFile → Answer → Type 0) → Answer → Type 0
 UnderPolicy latest text after = Follows Policy (IsPolicyRefused latest text) (IsPolicy latest text) after
 
 -- the output of `check`: the canonical text of a policy
-abbrev pub checked : Judged → Answer
+abbrev pub checked : PolicyFile → Answer
 checked j = text_alone 0 (canonical_text (senses_of j.entries))
 
 -- ---- results of reading
 abbrev pub IsTextRead : Edition → List ℕ → Read Lines → Type 0
 IsTextRead latest text read = IsRead (IsTextRefused latest text) (λ lines. HasEntries latest text (entries_in lines)) read
 
-abbrev pub IsPolicyRead : Edition → List ℕ → Read code.Judged → Type 0
-IsPolicyRead latest text read = IsRead (IsPolicyRefused latest text) (λ j. IsPolicy latest text (judged_of j)) read
+abbrev pub IsPolicyRead : Edition → List ℕ → Read code.PolicyFile → Type 0
+IsPolicyRead latest text read = IsRead (IsPolicyRefused latest text) (λ j. IsPolicy latest text (policy_file_of j)) read

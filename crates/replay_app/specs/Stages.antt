@@ -1,6 +1,6 @@
 -- The outputs of a run after each of its inputs is accepted.
-use Rattle.std.specs.Prelude.{◌≡◌, ℕ, List, []}
-use Rattle.tree_defs.specs.Topology.{Topology, topology_of}
+use Rattle.std.specs.Prelude.{◌≡◌, ℕ, List}
+use Rattle.tree_defs.specs.Topology.{topology_of}
 use Rattle.policy_rules.specs.Resolved.{Resolved}
 use Rattle.policy_text_defs.specs.declared.edition.Edition.{Edition}
 use Rattle.target_core.specs.declared.target.Target.{Target}
@@ -9,13 +9,10 @@ use Rattle.replay_app.specs.Answer.{Answer}
 use Rattle.replay_app.specs.Output.{direct_run, laid_run, IsPaced}
 use Rattle.replay_app.specs.Policies.{UnderPolicy}
 use Rattle.replay_app.specs.Scripts.{AlongScript, script_pace}
-use Rattle.mapcheck_core.specs.declared.given.Given.{Given}
 use Rattle.replay_app.specs.Targets.{ForTarget, WithRoom}
-use Rattle.replay_app.specs.Via.{ForTopology, ForMap, WithRoomAlong}
 use Rattle.tap_core.specs.Lists.{Entry, named_entries}
 use Rattle.tap_core.specs.Watching.{Sight}
 use Rattle.replay_app.specs.Words.{Pacing}
-use Rattle.replay_app.specs.declared.words.ViaFiles.{ViaFiles}
 
 -- after the policy, for a run without a fabric
 abbrev pub BehindPolicy : Resolved → List ℕ → List ℕ → Answer → Type 0
@@ -47,23 +44,4 @@ BehindTargetText watching policy target pacing capture contents =
 -- after the arguments, for a run through a fabric
 abbrev pub BehindWords : List Entry → Edition → List ℕ → List ℕ → Pacing → List ℕ → (List ℕ → List ℕ) → Answer → Type 0
 BehindWords watching latest policy target pacing capture contents =
-    UnderPolicy latest (contents policy) (λ judged. BehindTargetText watching judged.policy target pacing capture contents)
-
--- ---- along a given map
--- after the target: the topology needs room, and the policy's tree is placed along the map
-abbrev pub AlongTarget : Resolved → Topology → Given → Target → ViaFiles → (List ℕ → List ℕ) → Answer → Type 0
-AlongTarget policy middle given target files contents =
-    WithRoomAlong policy.policy given middle target (λ laid. BehindScript [] policy laid files.script.now files.capture.now contents)
-
--- after the map
-abbrev pub AlongMap : Resolved → Topology → Given → ViaFiles → (List ℕ → List ℕ) → Answer → Type 0
-AlongMap policy middle given files contents = ForTarget (contents files.target.now) (λ target. AlongTarget policy middle given target files contents)
-
--- after the topology
-abbrev pub BehindTopology : Resolved → Topology → ViaFiles → (List ℕ → List ℕ) → Answer → Type 0
-BehindTopology policy middle files contents =
-    ForMap policy.policy middle (contents files.map.now) (λ given. AlongMap policy middle given files contents)
-
--- after the policy
-abbrev pub AlongPolicy : Resolved → ViaFiles → (List ℕ → List ℕ) → Answer → Type 0
-AlongPolicy policy files contents = ForTopology (contents files.topology.now) (λ middle. BehindTopology policy middle files contents)
+    UnderPolicy latest (contents policy) (λ policy_file. BehindTargetText watching policy_file.policy target pacing capture contents)

@@ -26,7 +26,7 @@ use Rattle.sched_embedded.specs.Laid.{Laid}
 use Rattle.replay_app.specs.Answer.{Answer, text_alone}
 use Rattle.replay_app.specs.Follows.{Follows}
 use Rattle.replay_app.specs.Targets.{HasNoRoom, IsPlacement}
-use Rattle.replay_app.specs.declared.maps.Tried.{Tried}
+use Rattle.replay_app.specs.declared.maps.MapFile.{MapFile}
 
 -- ---- the topology
 -- the code and line number with which the text of a topology is rejected
@@ -53,7 +53,7 @@ pub data IsMapRefused (policy : Policy) (text : List ℕ) : ℕ → ℕ → Type
 
 -- the text gives this map, which is an embedding of the policy's tree into the topology, or first
 -- breaks this clause of one
-pub record IsTried (policy : Policy) (middle : Topology) (text : List ℕ) (t : Tried) : Type 0 where
+pub record IsMapFile (policy : Policy) (middle : Topology) (text : List ℕ) (t : MapFile) : Type 0 where
   pub read : IsMapAnswer (policy_edition policy) text (names_of policy) (Ok t.given)
   pub verdict : IsVerdict (topology_of policy.tree) middle t.given t.fault
 
@@ -62,7 +62,7 @@ abbrev pub pair_line : List ℕ → List ℕ → List ℕ
 pair_line a b = line_of (codes "pair" ∷ a ∷ b ∷ [])
 
 -- the map has an image for each node, and is an embedding or first breaks this clause of one
-pub record HasVerdict (policy : Policy) (middle : Topology) (t : Tried) : Type 0 where
+pub record HasVerdict (policy : Policy) (middle : Topology) (t : MapFile) : Type 0 where
   pub given_for : IsGivenFor (topology_of policy.tree) t.given
   pub verdict : IsVerdict (topology_of policy.tree) middle t.given t.fault
 
@@ -89,7 +89,7 @@ Unbroken names (Some f) after a = a ≡ map_refusal names f
 -- outputs that depend on the text of a map of a policy's tree into a topology
 abbrev pub ForMap : Policy → Topology → List ℕ → (Given → Answer → Type 0) → Answer → Type 0
 ForMap policy middle text after =
-    Follows kind.Map (IsMapRefused policy text) (IsTried policy middle text) (λ t. Unbroken (names_of policy) t.fault (after t.given))
+    Follows kind.Map (IsMapRefused policy text) (IsMapFile policy middle text) (λ t. Unbroken (names_of policy) t.fault (after t.given))
 
 -- ---- along the map
 -- a map of a policy's tree into a topology, which is an embedding

@@ -12,17 +12,14 @@ ghost use Rattle.replay_app.specs.Words.{AreLent, WhereTold, file_words, form_in
 ghost use Rattle.sched_capture.specs.Placements.{CanCount};
 ghost use Rattle.replay_app.specs.Causes.{HasCauses};
 
-use crate::check::check_file;
-use crate::direct::direct_files;
-use crate::plan::plan_files;
+use crate::execution::execute;
+use crate::not_run::NotRun;
+use crate::preparation::prepare;
 use crate::refusal::Refusal;
-use crate::soak::soak_load;
 use crate::status::Status;
 use crate::stop::stop_status;
-use crate::via::via_files;
-use crate::watched::replay_watched;
-use crate::words::{Command, command_of};
-use crate::writing::refuse;
+use crate::words::command_of;
+use crate::writing::{refuse, write_rejection};
 use fabric_core::Fabric;
 use outside_core::{Shelf, Sink, Stop};
 use policy_text::Edition;
@@ -33,7 +30,7 @@ use tap_core::Tap;
 /// The arguments are malformed.
 pub const NO_FORM: Refusal = Refusal { code: 0, place: 0 };
 
-/// Parses the arguments and runs the command, whose policy is read up to the edition `latest`.
+/// Decides what the command does, and does it. Its policy is read up to the edition `latest`.
 fn answer<S: Shelf, K: Sink, F: Fabric, T: Tap>(
     alloc: Global,
     latest: Edition,
@@ -70,14 +67,14 @@ fn answer<S: Shelf, K: Sink, F: Fabric, T: Tap>(
     ensures causes { HasCauses result (S.faults shelf.old) (S.faults shelf.new) (K.faults sink.old)
         (K.faults sink.new) }
 {
-    match command_of(latest, words) {
-        Some(Command::Replay(files)) => replay_watched(alloc, &files, shelf, sink, fabric, taps),
-        Some(Command::Check(edition, policy)) => check_file(alloc, edition, policy, shelf, sink),
-        Some(Command::Plan(files)) => plan_files(alloc, &files, shelf, sink),
-        Some(Command::Direct(files)) => direct_files(alloc, &files, shelf, sink),
-        Some(Command::Soak(load)) => soak_load(alloc, load, sink, fabric),
-        Some(Command::Via(files)) => via_files(alloc, &files, shelf, sink, fabric),
-        None => refuse(alloc, sink, FaultKind::Words, NO_FORM),
+    let command = match command_of(latest, words) {
+        Some(command) => command,
+        None => return refuse(alloc, sink, FaultKind::Words, NO_FORM),
+    };
+    match prepare(alloc, &command, shelf) {
+        Ok(job) => execute(alloc, job, shelf, sink, fabric, taps),
+        Err(NotRun::Rejected(rejection)) => write_rejection(alloc, &rejection, sink),
+        Err(NotRun::Stopped(stop)) => Err(stop),
     }
 }
 

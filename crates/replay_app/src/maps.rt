@@ -8,7 +8,7 @@ ghost use Rattle.tree_core.specs.Shape.{topology};
 ghost use Rattle.mapcheck_core.specs.GivenMaps.{IsWithinLimits, IsGivenFor, IsVerdict};
 ghost use Rattle.mapcheck_core.specs.MapFaults.{code_of, place_of};
 ghost use Rattle.replay_app.specs.Follows.{IsRead, IfAccepted};
-ghost use Rattle.replay_app.specs.Via.{HasVerdict, IsMapRefused, IsTried, names_of, policy_edition};
+ghost use Rattle.replay_app.specs.Via.{HasVerdict, IsMapRefused, IsMapFile, names_of, policy_edition};
 
 use crate::load::load_short;
 use crate::refusal::{Read, Refusal};
@@ -22,13 +22,13 @@ use tree_core::Topo;
 
 /// A map that was read, with the first clause of an embedding that it breaks, if any.
 #[derive(Drop)]
-pub struct Tried {
+pub struct MapFile {
     pub given: Given,
     pub fault: Option<MapFault>,
 }
 
 /// Returns the code and position with which an error of a map is reported. Fails if out of memory.
-fn told_of(fault: MapFault) -> Result<Refusal, AllocError>
+fn refusal_of(fault: MapFault) -> Result<Refusal, AllocError>
     ensures memory { OnOk result (fault ≢ MapFault.NoMemory) }
     ensures told { IfOk result (λ r. r ≡ record { code = code_of fault; place = place_of fault }) }
 {
@@ -84,10 +84,10 @@ fn map_in(
     policy: &Policy,
     middle: &Topo,
     text: &[u8],
-) -> Result<Read<Tried>, AllocError>
+) -> Result<Read<MapFile>, AllocError>
     requires middle { IsWithinLimits (topology middle.now) }
     ensures read { IfOk result (λ read. IsRead (IsMapRefused policy.now.policy text.now)
-        (IsTried policy.now.policy (topology middle.now) text.now) read) }
+        (IsMapFile policy.now.policy (topology middle.now) text.now) read) }
     ensures verdict { IfOk result (λ read. IfAccepted read (HasVerdict policy.now.policy
         (topology middle.now))) }
 {
@@ -95,9 +95,9 @@ fn map_in(
     match read_map(alloc, policy_edition(policy), text, &names) {
         Ok(given) => {
             let fault = first_broken(policy.topo(), middle, &given);
-            Ok(Read::Accepted(Tried { given, fault }))
+            Ok(Read::Accepted(MapFile { given, fault }))
         }
-        Err(fault) => Ok(Read::Refused(told_of(fault)?)),
+        Err(fault) => Ok(Read::Refused(refusal_of(fault)?)),
     }
 }
 
@@ -109,12 +109,12 @@ pub fn read_map_file<S: Shelf>(
     middle: &Topo,
     shelf: &mut S,
     name: &str,
-) -> Result<Read<Tried>, Stop>
+) -> Result<Read<MapFile>, Stop>
     requires middle { IsWithinLimits (topology middle.now) }
     requires lent { IsTrue (S.lends shelf.old name.now) }
 
     ensures read { IfOk result (λ read. IfSome (S.content shelf.old name.now) (λ text.
-        IsRead (IsMapRefused policy.now.policy text) (IsTried policy.now.policy (topology middle.now) text) read)) }
+        IsRead (IsMapRefused policy.now.policy text) (IsMapFile policy.now.policy (topology middle.now) text) read)) }
     ensures verdict { IfOk result (λ read. IfAccepted read (HasVerdict policy.now.policy
         (topology middle.now))) }
     ensures kept { KeepsShelf S.lends S.content S.faults shelf.old shelf.new }
@@ -123,6 +123,6 @@ pub fn read_map_file<S: Shelf>(
 {
     match load_short(alloc, shelf, name, MOST_MAP_BYTES)? {
         Some(text) => Ok(map_in(alloc, policy, middle, &text)?),
-        None => Ok(Read::Refused(told_of(MapFault::TooLong)?)),
+        None => Ok(Read::Refused(refusal_of(MapFault::TooLong)?)),
     }
 }

@@ -16,14 +16,14 @@ use std::alloc::{AllocError, Global};
 
 /// The statements of an accepted policy, and the policy that they give.
 #[derive(Drop)]
-pub struct Judged {
+pub struct PolicyFile {
     pub lines: Lines,
     pub policy: Policy,
 }
 
 /// Returns the code and line number with which an error of a text is reported. Fails if out of
 /// memory.
-fn told_of(fault: TextFault) -> Result<Refusal, AllocError>
+fn text_refusal(fault: TextFault) -> Result<Refusal, AllocError>
     ensures memory { OnOk result (fault ≢ TextFault.NoMemory) }
     ensures told { IfOk result (λ r. r ≡ record {
       code = text_code fault;
@@ -46,7 +46,7 @@ fn lines_in(alloc: Global, latest: Edition, text: &[u8]) -> Result<Read<Lines>, 
 {
     match parse_to(alloc, text, latest) {
         Ok(lines) => Ok(Read::Accepted(lines)),
-        Err(fault) => Ok(Read::Refused(told_of(fault)?)),
+        Err(fault) => Ok(Read::Refused(text_refusal(fault)?)),
     }
 }
 
@@ -67,13 +67,13 @@ fn read_lines<S: Shelf>(
 {
     match load_short(alloc, shelf, name, MOST_TEXT)? {
         Some(text) => Ok(lines_in(alloc, latest, &text)?),
-        None => Ok(Read::Refused(told_of(TextFault::TooLong)?)),
+        None => Ok(Read::Refused(text_refusal(TextFault::TooLong)?)),
     }
 }
 
 /// Returns the code and line number with which an error of the statements is reported. Fails if out
 /// of memory.
-fn refusal_of(fault: PolicyFault) -> Result<Refusal, AllocError>
+fn statement_refusal(fault: PolicyFault) -> Result<Refusal, AllocError>
     ensures memory { OnOk result (fault ≢ PolicyFault.NoMemory) }
     ensures told { IfOk result (λ r. r ≡ record { code = code_of fault; place = line_of fault }) }
 {
@@ -87,14 +87,14 @@ fn refusal_of(fault: PolicyFault) -> Result<Refusal, AllocError>
 }
 
 /// Resolves statements to a policy, or returns why they are rejected. Fails if out of memory.
-fn judge(alloc: Global, read: Read<Lines>) -> Result<Read<Judged>, AllocError>
+fn judge(alloc: Global, read: Read<Lines>) -> Result<Read<PolicyFile>, AllocError>
     ensures { (latest : Edition) (text : List ℕ) → IsTextRead latest text read
         → IfOk result (IsPolicyRead latest text) }
 {
     match read {
         Read::Accepted(lines) => match resolve(alloc, &lines) {
-            Ok(policy) => Ok(Read::Accepted(Judged { lines, policy })),
-            Err(fault) => Ok(Read::Refused(refusal_of(fault)?)),
+            Ok(policy) => Ok(Read::Accepted(PolicyFile { lines, policy })),
+            Err(fault) => Ok(Read::Refused(statement_refusal(fault)?)),
         },
         Read::Refused(refusal) => Ok(Read::Refused(refusal)),
     }
@@ -106,7 +106,7 @@ pub fn read_policy<S: Shelf>(
     latest: Edition,
     shelf: &mut S,
     name: &str,
-) -> Result<Read<Judged>, Stop>
+) -> Result<Read<PolicyFile>, Stop>
     requires lent { IsTrue (S.lends shelf.old name.now) }
 
     ensures read { IfOk result (λ read. IfSome (S.content shelf.old name.now) (λ text.

@@ -15,7 +15,7 @@ use std::alloc::{AllocError, Global};
 
 /// Returns the code and position with which an error of a script is reported. Fails if out of
 /// memory.
-fn told_of(fault: ScriptFault) -> Result<Refusal, AllocError>
+fn refusal_of(fault: ScriptFault) -> Result<Refusal, AllocError>
     ensures memory { OnOk result (fault ≢ ScriptFault.NoMemory) }
     ensures told { IfOk result (λ r. r ≡ record { code = code_of fault; place = place_of fault }) }
 {
@@ -36,7 +36,7 @@ fn script_in(alloc: Global, text: &[u8]) -> Result<Read<Script>, AllocError>
 {
     match parse_events(alloc, text) {
         Ok(script) => Ok(Read::Accepted(script)),
-        Err(fault) => Ok(Read::Refused(told_of(fault)?)),
+        Err(fault) => Ok(Read::Refused(refusal_of(fault)?)),
     }
 }
 
@@ -53,6 +53,6 @@ pub fn read_script<S: Shelf>(alloc: Global, shelf: &mut S, name: &str) -> Result
 {
     match load_short(alloc, shelf, name, MOST_BYTES)? {
         Some(text) => Ok(script_in(alloc, &text)?),
-        None => Ok(Read::Refused(told_of(ScriptFault::TooLong)?)),
+        None => Ok(Read::Refused(refusal_of(ScriptFault::TooLong)?)),
     }
 }

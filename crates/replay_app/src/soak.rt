@@ -1,5 +1,5 @@
 //! The command `soak`: a generated load and its line.
-ghost use Rattle.std.specs.Prelude.{◌≡◌, ◌++◌, ◌<◌, ◌≤◌, IfOk, OnOk, OnErr, IsErrOf};
+ghost use Rattle.std.specs.Prelude.{◌≡◌, ◌++◌, ◌<◌, ◌≤◌, IfErr, IfOk, OnOk, OnErr, IsErrOf};
 ghost use Rattle.outside_core.specs.Faults.{Rose};
 ghost use Rattle.outside_core.specs.Written.{Appended, AppendedPrefix};
 ghost use Rattle.policy_core.specs.Office.{office_lines};
@@ -10,17 +10,18 @@ ghost use Rattle.replay_app.specs.Answer.{IsDone, IsTold};
 ghost use Rattle.replay_app.specs.Soak.{IsSoaked, counted, soak_line, soak_target};
 ghost use Rattle.replay_app.specs.Targets.{IsPlacement};
 ghost use Rattle.tree_defs.specs.Topology.{topology_of};
-ghost use Rattle.tree_defs.specs.Tree.{SameShape};
 ghost use Rattle.sched_capture.specs.Placements.{CanCount};
 
+use crate::laying::lay;
+use crate::not_run::NotRun;
 use crate::status::Status;
 use crate::writing::write;
-use embed_core::{EmbedFault, Target, embed};
+use embed_core::Target;
 use fabric_core::Fabric;
 use list_core::List;
 use outside_core::{Sink, Stop};
 use policy_core::Policy;
-use sched_capture::{LoadCounts, LoadSize, Placement, soak};
+use sched_capture::{LaidPolicy, LoadCounts, LoadSize, soak};
 use std::alloc::{AllocError, Global};
 use text_core::put_decimal;
 
@@ -69,47 +70,20 @@ fn target(alloc: Global) -> Result<Target, AllocError>
     Ok(Target { arities, above: 4 })
 }
 
-/// Embeds the tree of the office policy into that target, which has room for it. Fails if out of
-/// memory.
-fn placement(alloc: Global, policy: &Policy) -> Result<Placement, AllocError>
-    requires office { IsResolved office_lines policy.now }
-    ensures target { IfOk result (λ p. p.target ≡ soak_target) }
-    ensures map { IfOk result (λ p. IsPlacement (topology_of policy.now.policy.tree) p.target
-        p.map) }
-    ensures shape { IfOk result (λ p. SameShape (topology_of policy.now.policy.tree) p.map) }
+/// Lays the office policy into that target, which has room for it.
+fn lay_office(alloc: Global) -> Result<LaidPolicy, Stop>
+    ensures office { IfOk result (λ l. IsResolved office_lines l.policy) }
+    ensures target { IfOk result (λ l. l.target ≡ soak_target) }
+    ensures map { IfOk result (λ l. IsPlacement (topology_of l.policy.policy.tree) l.target l.map) }
+    ensures memory { IfErr result (λ stop. stop ≡ Stop.Memory) }
 {
+    let policy = Policy::office(alloc)?;
     let target = target(alloc)?;
-    match embed(alloc, policy.topo(), &target) {
-        Ok(map) => Ok(Placement { target, map }),
-        Err(EmbedFault::NoEmbedding) => unreachable!(),
-        Err(EmbedFault::NoMemory) => Err(AllocError),
+    match lay(alloc, policy, target) {
+        Ok(laid) => Ok(laid),
+        Err(NotRun::Rejected(_)) => unreachable!(),
+        Err(NotRun::Stopped(stop)) => Err(stop),
     }
-}
-
-/// Runs a load through the fabric under the office policy, and writes its line.
-fn soak_office<K: Sink, F: Fabric>(
-    alloc: Global,
-    policy: &Policy,
-    load: LoadSize,
-    sink: &mut K,
-    fabric: &mut F,
-) -> Result<Status, Stop>
-    requires office { IsResolved office_lines policy.now }
-    requires short { load.count ≤ most_load }
-    requires counts { CanCount F.Fabric fabric.old }
-
-    ensures status { IfOk result (λ s. s ≡ Status.Done) }
-    ensures answer { IsTold (IsSoaked load) result (K.written sink.old) (K.written sink.new) }
-    ensures left { IsDone (IsSoaked load) result
-        (λ a. Leaves F.Fabric a.run fabric.old fabric.new) (λ a. LeavesPart F.Fabric a.run fabric.old fabric.new) }
-    ensures sink_cause { IsErrOf result Stop.Sink → Rose (K.faults sink.old) (K.faults sink.new) }
-    ensures sink_later { K.faults sink.old ≤ K.faults sink.new }
-    ensures reads_nothing { IsErrOf result Stop.Source → ⊥ }
-{
-    let placement = placement(alloc, policy)?;
-    let counts = soak(alloc, policy, placement, load, sink, fabric)?;
-    write_counts(alloc, counts, sink)?;
-    Ok(Status::Done)
 }
 
 /// Runs a load through the fabric under the office policy, and writes its line. The policy's tree
@@ -131,6 +105,8 @@ pub fn soak_load<K: Sink, F: Fabric>(
     ensures sink_later { K.faults sink.old ≤ K.faults sink.new }
     ensures reads_nothing { IsErrOf result Stop.Source → ⊥ }
 {
-    let policy = Policy::office(alloc)?;
-    soak_office(alloc, &policy, load, sink, fabric)
+    let laid = lay_office(alloc)?;
+    let counts = soak(alloc, laid, load, sink, fabric)?;
+    write_counts(alloc, counts, sink)?;
+    Ok(Status::Done)
 }

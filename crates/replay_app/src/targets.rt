@@ -19,7 +19,7 @@ pub const NO_ROOM: Refusal = Refusal { code: 1, place: 0 };
 
 /// Returns the code with which an error of a target is reported. Such an error has no position.
 /// Fails if out of memory.
-fn told_of(fault: TargetFault) -> Result<Refusal, AllocError>
+fn refusal_of(fault: TargetFault) -> Result<Refusal, AllocError>
     ensures memory { OnOk result (fault ≢ TargetFault.NoMemory) }
     ensures told { IfOk result (λ r. r ≡ record { code = code_of fault; place = 0 }) }
 {
@@ -40,7 +40,7 @@ fn target_in(alloc: Global, text: &[u8]) -> Result<Read<Target>, AllocError>
 {
     match read_target(alloc, text) {
         Ok(target) => Ok(Read::Accepted(target)),
-        Err(fault) => Ok(Read::Refused(told_of(fault)?)),
+        Err(fault) => Ok(Read::Refused(refusal_of(fault)?)),
     }
 }
 
@@ -61,6 +61,6 @@ pub fn read_target_file<S: Shelf>(
 {
     match load_short(alloc, shelf, name, MOST_BYTES)? {
         Some(text) => Ok(target_in(alloc, &text)?),
-        None => Ok(Read::Refused(told_of(TargetFault::TooLong)?)),
+        None => Ok(Read::Refused(refusal_of(TargetFault::TooLong)?)),
     }
 }

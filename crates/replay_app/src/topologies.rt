@@ -17,7 +17,7 @@ use tree_core::Topo;
 
 /// Returns the code and position with which an error of a topology is reported. Fails if out of
 /// memory.
-fn told_of(fault: TreeFault) -> Result<Refusal, AllocError>
+fn refusal_of(fault: TreeFault) -> Result<Refusal, AllocError>
     ensures memory { OnOk result (fault ≢ TreeFault.NoMemory) }
     ensures told { IfOk result (λ r. r ≡ record { code = code_of fault; place = place_of fault }) }
 {
@@ -38,7 +38,7 @@ fn topology_in(alloc: Global, text: &[u8]) -> Result<Read<Topo>, AllocError>
 {
     match read_tree(alloc, text) {
         Ok(tree) => Ok(Read::Accepted(tree)),
-        Err(fault) => Ok(Read::Refused(told_of(fault)?)),
+        Err(fault) => Ok(Read::Refused(refusal_of(fault)?)),
     }
 }
 
@@ -55,6 +55,6 @@ pub fn read_topology<S: Shelf>(alloc: Global, shelf: &mut S, name: &str) -> Resu
 {
     match load_short(alloc, shelf, name, MOST_TREE_BYTES)? {
         Some(text) => Ok(topology_in(alloc, &text)?),
-        None => Ok(Read::Refused(told_of(TreeFault::TooLong)?)),
+        None => Ok(Read::Refused(refusal_of(TreeFault::TooLong)?)),
     }
 }

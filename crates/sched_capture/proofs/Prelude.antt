@@ -54,6 +54,6 @@ pub use Rattle.sched_capture.specs.Forwards.{forward_events, forward_over, forwa
 pub use Rattle.sched_capture.specs.NextPacket.{IsNext, packet_told}
 pub use Rattle.sched_capture.specs.Outside.{IsReported, KeepsOutside}
 pub use Rattle.sched_capture.specs.Packets.{packet_of, class_given, packets_from}
-pub use Rattle.sched_capture.specs.Placements.{paced_through, laid_by}
+pub use Rattle.sched_capture.specs.Placements.{paced_through, laid_in}
 pub use Rattle.sched_capture.specs.SingleLinkType.{one_link_in, captures_of, link_in, link_of, EachFileOf, rest_of_link, IsFirst, ahead_in, there, with_ahead}
 pub use Rattle.sched_capture.specs.declared.forwarding.Forwarding.{Forwarding}

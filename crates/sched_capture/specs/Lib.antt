@@ -1,5 +1,6 @@
 pub mod Answers
 pub mod Placements
+pub mod Codes
 pub mod Starts
 pub mod Outside
 pub mod Loads

@@ -1,22 +1,29 @@
 -- The placement of a policy's tree in the hardware.
+use Rattle.tree_defs.specs.Tree.{Tree, Address}
 use Rattle.policy_defs.specs.Policy.{Policy}
+use Rattle.policy_rules.specs.Resolved.{Resolved}
+use Rattle.target_core.specs.declared.target.Target.{Target}
 use Rattle.sched_defs.specs.SourceState.{start}
 use Rattle.sched_defs.specs.Packets.{Left}
 use Rattle.sched_run.specs.declared.pace.Pace.{Pace}
 use Rattle.sched_run.specs.Courses.{course_of}
-use Rattle.sched_embedded.specs.Embedded.{MapsInto}
-pub use Rattle.sched_embedded.specs.Embedded.{CanCount}
+pub use Rattle.sched_embedded.specs.Embedded.{MapsInto, CanCount}
 use Rattle.sched_embedded.specs.Fabrics.{FabricRun}
 use Rattle.sched_embedded.specs.Laid.{Laid}
-use Rattle.sched_capture.specs.declared.fabric.Placement.{Placement}
 
--- the target is in range, and the map embeds the policy's tree into it
-abbrev pub IsPlaced : Policy → Placement → Type 0
-IsPlaced policy p = MapsInto policy p.map p.target
+-- a policy, a target, and the image of each node of the policy's tree in the target
+pub record Placed : Type 0 where
+  pub policy : Resolved
+  pub target : Target
+  pub map : Tree Address
 
--- the images and the hardware's shape of a placement
-abbrev pub laid_by : Placement → Laid
-laid_by placement = record { images = placement.map; arities = placement.target.arities }
+-- these images in a target of this shape
+abbrev pub laid_in : Tree Address → Target → Laid
+laid_in images target = record { images = images; arities = target.arities }
+
+-- the images and the hardware's shape of a placed policy
+abbrev pub laid_by : Placed → Laid
+laid_by placed = laid_in placed.map placed.target
 
 -- the run over the packets left of a capture, through a fabric into which the policy's tree is laid
 abbrev pub paced_through : Policy → Laid → Pace → Left → FabricRun

@@ -19,15 +19,17 @@ ghost use Rattle.sched_capture.specs.Forwarding.{IsUnused};
 ghost use Rattle.sched_embedded.specs.Fabrics.{Leaves, LeavesPart, run_of};
 ghost use Rattle.sched_capture.specs.Answers.{IsRefusal, IsRefusalPart};
 ghost use Rattle.sched_capture.specs.Forwards.{forward_ending, refusal_ending, sent_bytes, forward_events, forward_of, forward_through, forward_answer};
-ghost use Rattle.sched_capture.specs.Placements.{laid_by, IsPlaced, CanCount};
+ghost use Rattle.sched_capture.specs.Placements.{laid_by, laid_in, CanCount, MapsInto};
 ghost use Rattle.sched_capture.specs.Starts.{IsAtStart, AreUnread, AreUnreadOfOne};
 ghost use Rattle.sched_capture.specs.Outside.{KeepsOutside};
 
 use crate::capture::{begin, direct_run, refuse};
 use crate::capture_packets::CapturePackets;
-use crate::fabric::{Placement, run_through};
+use crate::fabric::run_through;
 use crate::forwarding::Forwarding;
+use crate::laid::LaidPolicy;
 use crate::single_link_type::{OTHER_LINK, SingleLinkType};
+use embed_core::{Map, Target};
 use fabric_core::Fabric;
 use outside_core::{ReadError, Shelf, Sink, SinkError, Stop};
 use pcap_core::put_head;
@@ -219,7 +221,8 @@ fn write_header<K: Sink>(sink: &mut K, link: u16) -> Result<(), Stop>
 fn forward_records<S: Shelf, K: Sink, F: Fabric>(
     alloc: Global,
     policy: &Policy,
-    placement: Placement,
+    target: &Target,
+    map: Map,
     rate: LinkRate,
     packets: &mut SingleLinkType<'_, S>,
     shelf: &mut S,
@@ -227,7 +230,7 @@ fn forward_records<S: Shelf, K: Sink, F: Fabric>(
     fabric: &mut F,
 ) -> Result<ForwardEnding, Stop>
     requires rate { IsRate rate }
-    requires placed { IsPlaced policy.now.policy placement }
+    requires placed { MapsInto policy.now.policy map target.now }
     requires counts { CanCount F.Fabric fabric.old }
     requires unread { AreUnreadOfOne policy.now.policy packets.old (S.begun shelf.old) }
 
@@ -243,14 +246,18 @@ fn forward_records<S: Shelf, K: Sink, F: Fabric>(
         captures_of packets.old (S.left shelf.old) captured → AppendedPrefix (K.written sink.old) (K.written sink.new)
         (sent_bytes captured (outcomes policy.now.policy (forward_events policy.now.policy rate l) (start policy.now.policy))))) }
     ensures fabric { OnOk result (IfSome (left_of packets.old (S.left shelf.old)) (λ l.
-        Leaves F.Fabric (Some (forward_through policy.now.policy (laid_by placement) rate l)) fabric.old fabric.new)) }
+        Leaves F.Fabric
+        (Some (forward_through policy.now.policy (laid_in map target.now) rate l))
+        fabric.old fabric.new)) }
     ensures fabric_part { OnErr result (IfSome (left_of packets.old (S.left shelf.old)) (λ l.
-        LeavesPart F.Fabric (Some (forward_through policy.now.policy (laid_by placement) rate l)) fabric.old fabric.new)) }
+        LeavesPart F.Fabric
+        (Some (forward_through policy.now.policy (laid_in map target.now) rate l))
+        fabric.old fabric.new)) }
     ensures outside { KeepsOutside result S.faults shelf.old shelf.new K.written K.faults sink.old
         sink.new }
 {
     let recorder = Forwarding::new(alloc)?;
-    let mut run = run_through(alloc, policy, placement, recorder, fabric)?;
+    let mut run = run_through(alloc, policy, target, map, recorder, fabric)?;
     let mut watch: Watching<OrderTap> = Watching::new(alloc, Named::none(), Vec::new(alloc));
     forward_over(
         policy, &mut run, fabric, rate, packets, shelf, sink, &mut watch,
@@ -262,7 +269,8 @@ fn forward_records<S: Shelf, K: Sink, F: Fabric>(
 fn forward_packets<S: Shelf, K: Sink, F: Fabric>(
     alloc: Global,
     policy: &Policy,
-    placement: Placement,
+    target: &Target,
+    map: Map,
     rate: LinkRate,
     packets: &mut SingleLinkType<'_, S>,
     shelf: &mut S,
@@ -270,7 +278,7 @@ fn forward_packets<S: Shelf, K: Sink, F: Fabric>(
     fabric: &mut F,
 ) -> Result<ForwardEnding, Stop>
     requires rate { IsRate rate }
-    requires placed { IsPlaced policy.now.policy placement }
+    requires placed { MapsInto policy.now.policy map target.now }
     requires counts { CanCount F.Fabric fabric.old }
     requires unread { AreUnreadOfOne policy.now.policy packets.old (S.begun shelf.old) }
 
@@ -286,14 +294,20 @@ fn forward_packets<S: Shelf, K: Sink, F: Fabric>(
         captures_of packets.old (S.left shelf.old) captured → AppendedPrefix (K.written sink.old) (K.written sink.new)
         (forward_of policy.now.policy rate (link_of packets.old) captured l).text)) }
     ensures fabric { OnOk result (IfSome (left_of packets.old (S.left shelf.old)) (λ l.
-        Leaves F.Fabric (Some (forward_through policy.now.policy (laid_by placement) rate l)) fabric.old fabric.new)) }
+        Leaves F.Fabric
+        (Some (forward_through policy.now.policy (laid_in map target.now) rate l))
+        fabric.old fabric.new)) }
     ensures fabric_part { OnErr result (IfSome (left_of packets.old (S.left shelf.old)) (λ l.
-        LeavesPart F.Fabric (Some (forward_through policy.now.policy (laid_by placement) rate l)) fabric.old fabric.new)) }
+        LeavesPart F.Fabric
+        (Some (forward_through policy.now.policy (laid_in map target.now) rate l))
+        fabric.old fabric.new)) }
     ensures outside { KeepsOutside result S.faults shelf.old shelf.new K.written K.faults sink.old
         sink.new }
 {
     write_header(sink, packets.link())?;
-    forward_records(alloc, policy, placement, rate, packets, shelf, sink, fabric)
+    forward_records(
+        alloc, policy, target, map, rate, packets, shelf, sink, fabric,
+    )
 }
 
 /// Runs a link over a capture, through a fabric into which a map lays the policy's tree, and writes
@@ -304,8 +318,7 @@ fn forward_packets<S: Shelf, K: Sink, F: Fabric>(
 /// be written, or when out of memory. The output is then cut short.
 pub fn forward<S: Shelf, K: Sink, F: Fabric>(
     alloc: Global,
-    policy: &Policy,
-    placement: Placement,
+    laid: LaidPolicy,
     capture: &str,
     rate: LinkRate,
     shelf: &mut S,
@@ -314,29 +327,34 @@ pub fn forward<S: Shelf, K: Sink, F: Fabric>(
 ) -> Result<ForwardEnding, Stop>
     requires lent { IsTrue (S.lends shelf.old capture.now) }
     requires rate { IsRate rate }
-    requires placed { IsPlaced policy.now.policy placement }
     requires counts { CanCount F.Fabric fabric.old }
 
     ensures ending { IfOk result (λ e. IfSome (S.content shelf.old capture.now) (λ file.
-        e ≡ (forward_answer policy.now rate file).ending)) }
+        e ≡ (forward_answer laid.policy rate file).ending)) }
     ensures text { OnOk result (IfSome (S.content shelf.old capture.now) (λ file.
-        Appended (K.written sink.old) (K.written sink.new) (forward_answer policy.now rate file).text)) }
+        Appended (K.written sink.old) (K.written sink.new)
+        (forward_answer laid.policy rate file).text)) }
     ensures part { OnErr result (IfSome (S.content shelf.old capture.now) (λ file.
-        AppendedPrefix (K.written sink.old) (K.written sink.new) (forward_answer policy.now rate file).text)) }
+        AppendedPrefix (K.written sink.old) (K.written sink.new)
+        (forward_answer laid.policy rate file).text)) }
     ensures fabric { OnOk result (IfSome (S.content shelf.old capture.now) (λ file.
-        Leaves F.Fabric (run_of policy.now.policy (laid_by placement) (forward_answer policy.now rate file).events)
+        Leaves F.Fabric (run_of laid.policy.policy (laid_by laid)
+        (forward_answer laid.policy rate file).events)
         fabric.old fabric.new)) }
     ensures fabric_part { OnErr result (IfSome (S.content shelf.old capture.now) (λ file.
-        LeavesPart F.Fabric (run_of policy.now.policy (laid_by placement) (forward_answer policy.now rate file).events)
+        LeavesPart F.Fabric (run_of laid.policy.policy (laid_by laid)
+        (forward_answer laid.policy rate file).events)
         fabric.old fabric.new)) }
     ensures outside { KeepsOutside result S.faults shelf.old shelf.new K.written K.faults sink.old
         sink.new }
 {
-    match begin_one_link(alloc, policy, capture, shelf, sink) {
+    let (policy, target, map) = laid.into_parts();
+    match begin_one_link(alloc, &policy, capture, shelf, sink) {
         Ok(mut packets) => forward_packets(
             alloc,
-            policy,
-            placement,
+            &policy,
+            &target,
+            map,
             rate,
             &mut packets,
             shelf,

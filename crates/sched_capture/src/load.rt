@@ -6,11 +6,12 @@ ghost use Rattle.sched_run.specs.Load.{load_run};
 ghost use Rattle.sched_run.specs.Played.{HasMade, HasMadeSome};
 ghost use Rattle.sched_run.specs.Drawings.{HasLoadClasses, most_load};
 ghost use Rattle.sched_embedded.specs.Fabrics.{Leaves, LeavesPart};
-ghost use Rattle.sched_capture.specs.Placements.{laid_by, IsPlaced, CanCount};
+ghost use Rattle.sched_capture.specs.Placements.{laid_by, CanCount};
 ghost use Rattle.sched_capture.specs.Loads.{load_counts, load_through};
 ghost use Rattle.sched_capture.specs.Starts.{IsAtStart};
 
-use crate::fabric::{Placement, run_through};
+use crate::fabric::run_through;
+use crate::laid::LaidPolicy;
 use fabric_core::Fabric;
 use outside_core::{Sink, Stop};
 use policy_core::Policy;
@@ -76,28 +77,29 @@ fn count_load<C: Scheduler + Drop, K: Sink>(
 /// and then departures until no packet is queued. Writes nothing. The error means out of memory.
 pub fn soak<K: Sink, F: Fabric>(
     alloc: Global,
-    policy: &Policy,
-    placement: Placement,
+    laid: LaidPolicy,
     load: LoadSize,
     sink: &mut K,
     fabric: &mut F,
 ) -> Result<LoadCounts, Stop>
-    requires classes { HasLoadClasses policy.now.policy }
+    requires classes { HasLoadClasses laid.policy.policy }
     requires short { load.count ≤ most_load }
-    requires placed { IsPlaced policy.now.policy placement }
     requires counts { CanCount F.Fabric fabric.old }
 
-    ensures counts { IfOk result (λ n. n ≡ load_counts policy.now.policy load) }
+    ensures counts { IfOk result (λ n. n ≡ load_counts laid.policy.policy load) }
     ensures fabric { OnOk result (
-        Leaves F.Fabric (Some (load_through policy.now.policy (laid_by placement) load)) fabric.old fabric.new) }
+        Leaves F.Fabric (Some (load_through laid.policy.policy (laid_by laid) load))
+        fabric.old fabric.new) }
     ensures fabric_part { OnErr result (
-        LeavesPart F.Fabric (Some (load_through policy.now.policy (laid_by placement) load)) fabric.old fabric.new) }
+        LeavesPart F.Fabric (Some (load_through laid.policy.policy (laid_by laid) load))
+        fabric.old fabric.new) }
     ensures unwritten { K.written sink.new ≡ K.written sink.old }
     ensures kept { KeepsSink K.written K.faults sink.old sink.new }
     ensures cause { IfErr result (λ stop. HasSinkCause stop K.faults sink.old sink.new) }
 {
+    let (policy, target, map) = laid.into_parts();
     let sum = DepartureSum::new();
-    let mut run = run_through(alloc, policy, placement, sum, fabric)?;
+    let mut run = run_through(alloc, &policy, &target, map, sum, fabric)?;
     let mut watch: Watching<Box<dyn Tap>> = Watching::new(alloc, Named::none(), Vec::new(alloc));
-    count_load(policy, &mut run, fabric, load, sink, &mut watch)
+    count_load(&policy, &mut run, fabric, load, sink, &mut watch)
 }

@@ -1,7 +1,7 @@
 pub mod Prelude
 pub mod FrameLaws
 pub mod JoinedEvents
-pub mod HeardLaws
+pub mod RecordingLaws
 pub mod ShownLaws
 pub mod LineLaws
 pub mod MadeEvents

@@ -42,7 +42,7 @@ pub use Rattle.tree_defs.specs.Tree.{nodes, Address, Tree, IsAddressOf, LeadsBel
 pub use Rattle.sched_run.specs.Courses.{Courses, IsCourse, Agenda, link_agenda, script_agenda, CoursesAmid, CoursesFirst, Breaks, OnCourse, Runs, course_of}
 pub use Rattle.sched_run.specs.Drawings.{HasLoadClasses, most_load}
 pub use Rattle.sched_run.specs.Frames.{Continues, KeepsPackets, IsFurther}
-pub use Rattle.sched_run.specs.Heard.{heard, any_bytes, IsCapturedAs, heard_anyway, heard_without, no_bytes, heard_with}
+pub use Rattle.sched_run.specs.RecordingKinds.{recording, any_bytes, IsCapturedAs, recording_any, recording_none, no_bytes, recording_one}
 pub use Rattle.sched_run.specs.Links.{IsEarly, Sends, SendsAmid, SendsFirst, IsSent}
 pub use Rattle.sched_run.specs.Load.{first_drawing, load_events, load_next, LeavesNothing, MakesLoad, departs, load_event, load_run, packet_of}
 pub use Rattle.sched_run.specs.Played.{StopsIn, HasMade, Plays, line_of, AsksOnce, Departs, HasMadeSome, told}

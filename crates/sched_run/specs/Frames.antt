@@ -14,7 +14,9 @@ use Rattle.sched_defs.specs.declared.packets.Packets as packets
 use Rattle.sched_core.specs.declared.scheduler.Scheduler.{Ghosts}
 use Rattle.sched_core.specs.Standing.{StandForOne, ForEachState}
 use Rattle.tree_core.specs.Paths.{Way}
-use Rattle.tap_core.specs.Watching.{Sight, AreNoMore}
+use Rattle.tap_core.specs.Watching.{sight_of, AreNoMore}
+use Rattle.tap_core.specs.declared.tap.Tap as tap
+use Rattle.tap_core.specs.declared.watching.Watching.{Watching}
 use Rattle.sched_run.specs.declared.recorder.Recorder as recorder
 use Rattle.sched_run.specs.declared.run.Run.{Run}
 use Rattle.sched_run.specs.declared.tally.Tally.{Tally}
@@ -42,11 +44,11 @@ pub record Continues {C U N W : Type 0} (S : Ghosts C U) (old new : Run C N W) :
 -- A call on the run that reads no packets leaves the policy, the names and what the sink was given.
 -- Outcomes can still be recorded unless the call fails, and it fails only for a cause. No taps were
 -- added.
-pub record KeepsShown {C U N W K X : Type 0} (S : Ghosts C U) (R : recorder.Ghosts W) (k : sink.Ghosts K) (result : Result X Stop) (old new : Run C N W) (to to' : K)
-    (sight sight' : Sight) : Type 0 where
+pub record KeepsShown {C U N W K T X : Type 0} (S : Ghosts C U) (R : recorder.Ghosts W) (k : sink.Ghosts K) (t : tap.Ghosts T) (result : Result X Stop) (old new : Run C N W) (to to' : K)
+    (watch watch' : Watching T) : Type 0 where
   pub kept : Continues S old new
   pub live : OnOk result (R.live new.recorder)
-  pub fewer : AreNoMore sight sight'
+  pub fewer : AreNoMore (sight_of t.kind_of t.state_of watch) (sight_of t.kind_of t.state_of watch')
   pub kept_sink : KeepsSink k.written k.faults to to'
   pub cause : IfErr result (λ stop. HasSinkCause stop k.faults to to')
 
@@ -65,12 +67,12 @@ pub record KeepsPackets {P S : Type 0} (p : packets.Ghosts P S) (old new : P) (s
 
 -- The same for a call that reads packets. At most 2^32 - 1 packets have arrived after it, and no taps
 -- were added.
-pub record KeepsPlay {C U N W P F K X : Type 0} (S : Ghosts C U) (R : recorder.Ghosts W) (p : packets.Ghosts P F) (k : sink.Ghosts K) (result : Result X Stop) (old new : Run C N W)
-    (left left' : P) (source source' : F) (to to' : K) (sight sight' : Sight) : Type 0 where
+pub record KeepsPlay {C U N W P F K T X : Type 0} (S : Ghosts C U) (R : recorder.Ghosts W) (p : packets.Ghosts P F) (k : sink.Ghosts K) (t : tap.Ghosts T) (result : Result X Stop) (old new : Run C N W)
+    (left left' : P) (source source' : F) (to to' : K) (watch watch' : Watching T) : Type 0 where
   pub kept : Continues S old new
   pub live : OnOk result (R.live new.recorder)
   pub came : new.tally.came ≤ most_packets
-  pub fewer : AreNoMore sight sight'
+  pub fewer : AreNoMore (sight_of t.kind_of t.state_of watch) (sight_of t.kind_of t.state_of watch')
   pub kept_sink : KeepsSink k.written k.faults to to'
   pub kept_packets : KeepsPackets p left left' source source'
   pub cause : IfErr result (λ stop. HasCause stop p.faults source source' k.faults to to')

@@ -2,7 +2,7 @@ pub mod Frames
 pub mod Played
 pub mod Shown
 pub mod Recording
-pub mod Heard
+pub mod RecordingKinds
 pub mod Lines
 pub mod Steps
 pub mod Stages

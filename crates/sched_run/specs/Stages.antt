@@ -12,7 +12,10 @@ use Rattle.sched_core.specs.declared.scheduler.Scheduler.{Ghosts}
 use Rattle.sched_core.specs.Standing.{ForEachState}
 use Rattle.sched_run.specs.Played.{Plays, StopsIn}
 use Rattle.sched_run.specs.Shown.{shown_in}
-use Rattle.tap_core.specs.Watching.{Sight, Shows}
+use Rattle.tap_core.specs.Watching.{Sight, Shows, sight_of}
+use Rattle.tap_core.specs.declared.tap.Tap as tap
+use Rattle.tap_core.specs.declared.watching.Watching.{Watching}
+use Rattle.outside_core.specs.declared.sinks.Sink as sink
 use Rattle.sched_run.specs.declared.run.Run.{Run}
 use Rattle.sched_run.specs.declared.tally.Tally.{Tally}
 use Rattle.sched_run.specs.Recording.{Recordings}
@@ -33,6 +36,10 @@ stage c u w written given tally sight = record { scheduler = c; under = u; recor
 
 abbrev pub stage_of : {C U N W : Type 0} → Run C N W → U → Option (List ℕ) → ℕ → Sight → Stage C U W
 stage_of run u written given sight = stage run.scheduler u run.recorder written given run.tally sight
+
+-- the same, of a run with its sink and the taps that watch it
+abbrev pub stage_at : {C U N W K T : Type 0} → sink.Ghosts K → tap.Ghosts T → Run C N W → U → K → ℕ → Watching T → Stage C U W
+stage_at k t run u to given watch = stage_of run u (k.written to) given (sight_of t.kind_of t.state_of watch)
 
 -- the number of the next event
 abbrev pub event_of : Tally → ℕ

@@ -100,11 +100,10 @@ impl<C: Scheduler + Drop, N: NodeNames + Drop, W: DepartureRecorder> Run<C, N, W
     ghost use Rattle.std.specs.Prelude.{◌≡◌, ◌≤◌, true, false, IfOk, IfSome, IsNone, OnOk, OnErr};
     ghost use Rattle.events_core.specs.Script.{most_count};
     ghost use Rattle.events_core.specs.Steps.{counts_of};
-    ghost use Rattle.sched_run.specs.Heard.{heard};
+    ghost use Rattle.sched_run.specs.RecordingKinds.{recording};
     ghost use Rattle.sched_run.specs.Frames.{IsSet, Stand, Feeds, CanBeginRun, KeepsPlay};
-    ghost use Rattle.sched_run.specs.Stages.{stage_of, event_of, IsFresh, CanBegin, HasRoomFor};
+    ghost use Rattle.sched_run.specs.Stages.{stage_at, event_of, IsFresh, CanBegin, HasRoomFor};
     ghost use Rattle.sched_run.specs.Turns.{StopsAmid};
-    ghost use Rattle.tap_core.specs.Watching.{sight_of};
     ghost use Rattle.sched_run.specs.Courses.{script_agenda, course_of, Courses, CoursesUnless};
     ghost use Rattle.sched_run.specs.Steps.{IsBounded, CanEndSo};
 
@@ -125,21 +124,19 @@ impl<C: Scheduler + Drop, N: NodeNames + Drop, W: DepartureRecorder> Run<C, N, W
         requires short { counts_of steps.now ≤ most_count }
 
         ensures ok { IfOk result (λ e.
-            Courses C.Scheduler (heard W.Recorder (P.captures packets.old source.old)) (C.policy self.old.scheduler)
+            Courses C.Scheduler (recording W.Recorder (P.captures packets.old source.old)) (C.policy self.old.scheduler)
             (script_agenda (C.policy self.old.scheduler) steps.now) e (P.left packets.old source.old)
-            (stage_of self.old under.old (K.written sink.old) (P.given packets.old)
-            (sight_of T.kind_of T.state_of watch.old))
-            (stage_of self.new under.new (K.written sink.new) (P.given packets.new)
-            (sight_of T.kind_of T.state_of watch.new))) }
+            (stage_at K.Sink T.Tap self.old under.old sink.old (P.given packets.old) watch.old)
+            (stage_at K.Sink T.Tap self.new under.new sink.new (P.given packets.new) watch.new)) }
         ensures err { OnErr result (
-            StopsAmid C.Scheduler (heard W.Recorder (P.captures packets.old source.old)) (C.policy self.old.scheduler)
+            StopsAmid C.Scheduler (recording W.Recorder (P.captures packets.old source.old)) (C.policy self.old.scheduler)
             (λ l s. (script_agenda (C.policy self.old.scheduler) steps.now l s (event_of self.old.tally)).events)
             (P.left packets.old source.old)
-            (stage_of self.old under.old (K.written sink.old) (P.given packets.old)
-            (sight_of T.kind_of T.state_of watch.old)) self.new.scheduler under.new (K.written sink.new)) }
-        ensures keeps { KeepsPlay C.Scheduler W.Recorder P.Packets K.Sink result self.old self.new
-            packets.old packets.new source.old source.new sink.old sink.new
-            (sight_of T.kind_of T.state_of watch.old) (sight_of T.kind_of T.state_of watch.new) }
+            (stage_at K.Sink T.Tap self.old under.old sink.old (P.given packets.old) watch.old)
+            self.new.scheduler under.new (K.written sink.new)) }
+        ensures keeps { KeepsPlay C.Scheduler W.Recorder P.Packets K.Sink T.Tap result self.old
+            self.new packets.old packets.new source.old source.new sink.old sink.new
+            watch.old watch.new }
     {
         for step in steps {
             let ending = self.play_step(under, sink, watch, packets, source, *step)?;
@@ -170,22 +167,20 @@ impl<C: Scheduler + Drop, N: NodeNames + Drop, W: DepartureRecorder> Run<C, N, W
         requires bounded { IsBounded pace }
 
         ensures ok { IfOk result (λ e.
-            CoursesUnless e C.Scheduler (heard W.Recorder (P.captures packets.old source.old)) W.over
+            CoursesUnless e C.Scheduler (recording W.Recorder (P.captures packets.old source.old)) W.over
             (C.policy self.old.scheduler)
             (course_of (C.policy self.old.scheduler) pace.entry) (P.left packets.old source.old)
-            (stage_of self.old under.old (K.written sink.old) (P.given packets.old)
-            (sight_of T.kind_of T.state_of watch.old))
-            (stage_of self.new under.new (K.written sink.new) (P.given packets.new)
-            (sight_of T.kind_of T.state_of watch.new))) }
+            (stage_at K.Sink T.Tap self.old under.old sink.old (P.given packets.old) watch.old)
+            (stage_at K.Sink T.Tap self.new under.new sink.new (P.given packets.new) watch.new)) }
         ensures err { OnErr result (
-            StopsAmid C.Scheduler (heard W.Recorder (P.captures packets.old source.old)) (C.policy self.old.scheduler)
+            StopsAmid C.Scheduler (recording W.Recorder (P.captures packets.old source.old)) (C.policy self.old.scheduler)
             (λ l s. (course_of (C.policy self.old.scheduler) pace.entry l s (event_of self.old.tally)).events)
             (P.left packets.old source.old)
-            (stage_of self.old under.old (K.written sink.old) (P.given packets.old)
-            (sight_of T.kind_of T.state_of watch.old)) self.new.scheduler under.new (K.written sink.new)) }
-        ensures keeps { KeepsPlay C.Scheduler W.Recorder P.Packets K.Sink result self.old self.new
-            packets.old packets.new source.old source.new sink.old sink.new
-            (sight_of T.kind_of T.state_of watch.old) (sight_of T.kind_of T.state_of watch.new) }
+            (stage_at K.Sink T.Tap self.old under.old sink.old (P.given packets.old) watch.old)
+            self.new.scheduler under.new (K.written sink.new)) }
+        ensures keeps { KeepsPlay C.Scheduler W.Recorder P.Packets K.Sink T.Tap result self.old
+            self.new packets.old packets.new source.old source.new sink.old sink.new
+            watch.old watch.new }
         ensures ends { IfOk result (λ o. IfSome o (CanEndSo pace.entry)) }
         ensures over { IfOk result (λ o. IsNone o → W.over self.new.recorder ≡ true) }
     {
@@ -248,9 +243,9 @@ impl<C: Scheduler + Drop, N: NodeNames + Drop> Run<C, N, Report> {
             (course_of (C.policy self.old.scheduler) pace.entry) (λ s run.
             Shows (shown_in (C.policy self.old.scheduler) (outcomes (C.policy self.old.scheduler) run.events s))
             (sight_of T.kind_of T.state_of watch.old) (sight_of T.kind_of T.state_of watch.new))) }
-        ensures keeps { KeepsPlay C.Scheduler ⟦<Report as Recorder>⟧ P.Packets K.Sink result
+        ensures keeps { KeepsPlay C.Scheduler ⟦<Report as Recorder>⟧ P.Packets K.Sink T.Tap result
             self.old self.new packets.old packets.new source.old source.new sink.old sink.new
-            (sight_of T.kind_of T.state_of watch.old) (sight_of T.kind_of T.state_of watch.new) }
+            watch.old watch.new }
         ensures ends { IfOk result (CanEndSo pace.entry) }
         ensures none_left { OnOk result (self.new.recorder.unwritten ≡ []) }
     {

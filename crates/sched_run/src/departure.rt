@@ -2,7 +2,7 @@
 ghost use Rattle.std.specs.Prelude.{[], ◌∷◌, OnOk, OnErr};
 ghost use Rattle.sched_defs.specs.Events.{Depart, outcomes};
 ghost use Rattle.sched_core.specs.Standing.{ForEachState};
-ghost use Rattle.sched_run.specs.Heard.{heard_anyway};
+ghost use Rattle.sched_run.specs.RecordingKinds.{recording_any};
 ghost use Rattle.sched_run.specs.Played.{Departs};
 ghost use Rattle.sched_run.specs.Recording.{KeepsRecord};
 ghost use Rattle.sched_run.specs.Frames.{CanDepart};
@@ -43,11 +43,11 @@ pub trait DepartureRecorder: Recorder {
             under.new trace.new }
         ensures recorded { OnOk result (ForEachState C.stands (C.policy scheduler.old) scheduler.old
             under.old (λ s.
-            (heard_anyway Self.Recorder).records self.old (K.written sink.old) (C.policy scheduler.old) departure.event
+            (recording_any Self.Recorder).records self.old (K.written sink.old) (C.policy scheduler.old) departure.event
             (outcomes (C.policy scheduler.old) (Depart departure.start ∷ []) s) self.new (K.written sink.new))) }
         ensures cut { OnErr result (ForEachState C.stands (C.policy scheduler.old) scheduler.old
             under.old (λ s.
-            (heard_anyway Self.Recorder).cuts self.old (K.written sink.old) (C.policy scheduler.old) departure.event
+            (recording_any Self.Recorder).cuts self.old (K.written sink.old) (C.policy scheduler.old) departure.event
             (outcomes (C.policy scheduler.old) (Depart departure.start ∷ []) s) (K.written sink.new))) }
         ensures keeps { KeepsRecord Self.live K.Sink result self.new sink.old sink.new }
     {

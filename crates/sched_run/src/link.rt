@@ -50,10 +50,9 @@ impl<C: Scheduler + Drop, N: NodeNames + Drop, W: DepartureRecorder> Run<C, N, W
     ghost use Rattle.tree_defs.specs.SourceTree.{size};
     ghost use Rattle.sched_defs.specs.Link.{send_until, link_turn};
     ghost use Rattle.sched_defs.specs.Numbered.{IsHeldBelow};
-    ghost use Rattle.sched_run.specs.Heard.{heard_anyway, heard, heard_with};
+    ghost use Rattle.sched_run.specs.RecordingKinds.{recording_any, recording, recording_one};
     ghost use Rattle.sched_run.specs.Frames.{IsSet, Stand, CanBeginRun, CountsDepartures, KeepsShown, KeepsPlay};
-    ghost use Rattle.sched_run.specs.Stages.{stage_of, CanBegin};
-    ghost use Rattle.tap_core.specs.Watching.{sight_of};
+    ghost use Rattle.sched_run.specs.Stages.{stage_at, CanBegin};
     ghost use Rattle.sched_run.specs.Links.{SendsUnless, SendsAmid, CanSend, CanCome, IsPaced, IsPacedForOne, Paces, PacesOne, CanPace, EndsLink};
     ghost use Rattle.sched_run.specs.Courses.{link_agenda, CoursesUnless, CoursesAmid};
 
@@ -73,20 +72,19 @@ impl<C: Scheduler + Drop, N: NodeNames + Drop, W: DepartureRecorder> Run<C, N, W
         requires paced { IsPaced C.Scheduler W.over self.old link.old rate }
 
         ensures ok { IfOk result (λ over.
-            (given : ℕ) → SendsUnless over C.Scheduler (heard_anyway W.Recorder) W.over (C.policy self.old.scheduler)
+            (given : ℕ) → SendsUnless over C.Scheduler (recording_any W.Recorder) W.over (C.policy self.old.scheduler)
             (λ s. send_until (C.policy self.old.scheduler) rate until (size s.tree) s link.old) link.new
-            (stage_of self.old under.old (K.written sink.old) given (sight_of T.kind_of T.state_of watch.old))
-            (stage_of self.new under.new (K.written sink.new) given (sight_of T.kind_of T.state_of watch.new))) }
+            (stage_at K.Sink T.Tap self.old under.old sink.old given watch.old)
+            (stage_at K.Sink T.Tap self.new under.new sink.new given watch.new)) }
         ensures err { OnErr result ((given : ℕ) →
-            SendsAmid C.Scheduler (heard_anyway W.Recorder) W.over (C.policy self.old.scheduler)
+            SendsAmid C.Scheduler (recording_any W.Recorder) W.over (C.policy self.old.scheduler)
             (λ s. send_until (C.policy self.old.scheduler) rate until (size s.tree) s link.old)
-            (stage_of self.old under.old (K.written sink.old) given
-            (sight_of T.kind_of T.state_of watch.old)) self.new.scheduler under.new (K.written sink.new)) }
+            (stage_at K.Sink T.Tap self.old under.old sink.old given watch.old)
+            self.new.scheduler under.new (K.written sink.new)) }
         ensures paces { Paces W.over result self.new link.new }
         ensures counts { CountsDepartures (λ n. n ≤ 2 ^ 34) result self.old.tally self.new.tally }
-        ensures keeps { KeepsShown C.Scheduler W.Recorder K.Sink result self.old self.new sink.old
-            sink.new
-            (sight_of T.kind_of T.state_of watch.old) (sight_of T.kind_of T.state_of watch.new) }
+        ensures keeps { KeepsShown C.Scheduler W.Recorder K.Sink T.Tap result self.old self.new
+            sink.old sink.new watch.old watch.new }
     {
         let held = self.scheduler.held();
         for _sent in 0..held {
@@ -123,21 +121,20 @@ impl<C: Scheduler + Drop, N: NodeNames + Drop, W: DepartureRecorder> Run<C, N, W
         requires paced { IsPacedForOne C.Scheduler W.over self.old link.old rate }
 
         ensures ok { IfOk result (λ over. (given : ℕ) → packet.now.number ≡ given + 1 →
-            SendsUnless over C.Scheduler (heard_with W.Recorder packet.now captured.now) W.over
+            SendsUnless over C.Scheduler (recording_one W.Recorder packet.now captured.now) W.over
             (C.policy self.old.scheduler)
             (λ s. link_turn (C.policy self.old.scheduler) rate packet.now s link.old) link.new
-            (stage_of self.old under.old (K.written sink.old) given (sight_of T.kind_of T.state_of watch.old))
-            (stage_of self.new under.new (K.written sink.new) (if over then given else given + 1)
-            (sight_of T.kind_of T.state_of watch.new))) }
+            (stage_at K.Sink T.Tap self.old under.old sink.old given watch.old)
+            (stage_at K.Sink T.Tap self.new under.new sink.new (if over then given else given + 1)
+            watch.new)) }
         ensures err { OnErr result ((given : ℕ) → packet.now.number ≡ given + 1 →
-            SendsAmid C.Scheduler (heard_with W.Recorder packet.now captured.now) W.over (C.policy self.old.scheduler)
+            SendsAmid C.Scheduler (recording_one W.Recorder packet.now captured.now) W.over (C.policy self.old.scheduler)
             (λ s. link_turn (C.policy self.old.scheduler) rate packet.now s link.old)
-            (stage_of self.old under.old (K.written sink.old) given
-            (sight_of T.kind_of T.state_of watch.old)) self.new.scheduler under.new (K.written sink.new)) }
+            (stage_at K.Sink T.Tap self.old under.old sink.old given watch.old)
+            self.new.scheduler under.new (K.written sink.new)) }
         ensures paces { PacesOne W.over result self.old self.new link.new }
-        ensures keeps { KeepsShown C.Scheduler W.Recorder K.Sink result self.old self.new sink.old
-            sink.new
-            (sight_of T.kind_of T.state_of watch.old) (sight_of T.kind_of T.state_of watch.new) }
+        ensures keeps { KeepsShown C.Scheduler W.Recorder K.Sink T.Tap result self.old self.new
+            sink.old sink.new watch.old watch.new }
     {
         let moment = self.scheduler.now().max(packet.moment);
         let over = self.send_until(under, sink, watch, link, rate, Some(moment))?;
@@ -167,22 +164,20 @@ impl<C: Scheduler + Drop, N: NodeNames + Drop, W: DepartureRecorder> Run<C, N, W
         requires paced { CanPace W.over self.old.recorder rate }
 
         ensures ok { IfOk result (λ e.
-            CoursesUnless e C.Scheduler (heard W.Recorder (P.captures packets.old source.old)) W.over
+            CoursesUnless e C.Scheduler (recording W.Recorder (P.captures packets.old source.old)) W.over
             (C.policy self.old.scheduler)
             (link_agenda (C.policy self.old.scheduler) rate 0) (P.left packets.old source.old)
-            (stage_of self.old under.old (K.written sink.old) (P.given packets.old)
-            (sight_of T.kind_of T.state_of watch.old))
-            (stage_of self.new under.new (K.written sink.new) (P.given packets.new)
-            (sight_of T.kind_of T.state_of watch.new))) }
+            (stage_at K.Sink T.Tap self.old under.old sink.old (P.given packets.old) watch.old)
+            (stage_at K.Sink T.Tap self.new under.new sink.new (P.given packets.new) watch.new)) }
         ensures err { OnErr result (
-            CoursesAmid C.Scheduler (heard W.Recorder (P.captures packets.old source.old)) W.over
+            CoursesAmid C.Scheduler (recording W.Recorder (P.captures packets.old source.old)) W.over
             (C.policy self.old.scheduler)
             (link_agenda (C.policy self.old.scheduler) rate 0) (P.left packets.old source.old)
-            (stage_of self.old under.old (K.written sink.old) (P.given packets.old)
-            (sight_of T.kind_of T.state_of watch.old)) self.new.scheduler under.new (K.written sink.new)) }
-        ensures keeps { KeepsPlay C.Scheduler W.Recorder P.Packets K.Sink result self.old self.new
-            packets.old packets.new source.old source.new sink.old sink.new
-            (sight_of T.kind_of T.state_of watch.old) (sight_of T.kind_of T.state_of watch.new) }
+            (stage_at K.Sink T.Tap self.old under.old sink.old (P.given packets.old) watch.old)
+            self.new.scheduler under.new (K.written sink.new)) }
+        ensures keeps { KeepsPlay C.Scheduler W.Recorder P.Packets K.Sink T.Tap result self.old
+            self.new packets.old packets.new source.old source.new sink.old sink.new
+            watch.old watch.new }
         ensures ends { EndsLink W.over result self.new.recorder }
     {
         let mut link = Link::new();

@@ -17,13 +17,12 @@ impl<C: Scheduler + Drop, N: NodeNames + Drop, W: DepartureRecorder> Run<C, N, W
     ghost use Rattle.std.specs.Prelude.{◌≡◌, ◌≤◌, ◌+◌, ℕ, [], ◌∷◌, IfOk, OnOk, OnErr};
     ghost use Rattle.sched_defs.specs.Numbered.{IsHeldBelow};
     ghost use Rattle.sched_core.specs.Standing.{ForEachState};
-    ghost use Rattle.sched_run.specs.Heard.{heard_without};
+    ghost use Rattle.sched_run.specs.RecordingKinds.{recording_none};
     ghost use Rattle.sched_run.specs.Frames.{IsSet, Stand, HasRoomForEither, HasRoomToBegin, KeepsShown};
     ghost use Rattle.sched_run.specs.Load.{first_drawing, load_event, load_events, load_next, load_run, MakesLoad};
     ghost use Rattle.sched_run.specs.Drawings.{HasLoadClasses, most_load, CanLoad, CanDraw};
     ghost use Rattle.sched_run.specs.Played.{StopsIn};
-    ghost use Rattle.sched_run.specs.Stages.{stage_of, arrivals_in, IsFresh, CanBegin, Makes, Stops};
-    ghost use Rattle.tap_core.specs.Watching.{sight_of};
+    ghost use Rattle.sched_run.specs.Stages.{stage_at, arrivals_in, IsFresh, CanBegin, Makes, Stops};
 
     /// Makes the next drawn event and records it.
     fn play_drawn<K: Sink, T: Tap>(
@@ -40,18 +39,17 @@ impl<C: Scheduler + Drop, N: NodeNames + Drop, W: DepartureRecorder> Run<C, N, W
         requires room { HasRoomForEither C.Scheduler self.old }
 
         ensures ok { OnOk result ((given : ℕ) → drawing.old.number ≡ given + 1 →
-            Makes C.Scheduler (heard_without W.Recorder) (C.policy self.old.scheduler) (load_event drawing.old ∷ [])
-            (stage_of self.old under.old (K.written sink.old) given (sight_of T.kind_of T.state_of watch.old))
-            (stage_of self.new under.new (K.written sink.new) (given + arrivals_in (load_event drawing.old ∷ []))
-            (sight_of T.kind_of T.state_of watch.new))) }
+            Makes C.Scheduler (recording_none W.Recorder) (C.policy self.old.scheduler) (load_event drawing.old ∷ [])
+            (stage_at K.Sink T.Tap self.old under.old sink.old given watch.old)
+            (stage_at K.Sink T.Tap self.new under.new sink.new (given + arrivals_in (load_event drawing.old ∷ []))
+            watch.new)) }
         ensures err { OnErr result ((given : ℕ) → drawing.old.number ≡ given + 1 →
-            Stops C.Scheduler (heard_without W.Recorder) (C.policy self.old.scheduler) (load_event drawing.old ∷ [])
-            (stage_of self.old under.old (K.written sink.old) given
-            (sight_of T.kind_of T.state_of watch.old)) self.new.scheduler under.new (K.written sink.new)) }
+            Stops C.Scheduler (recording_none W.Recorder) (C.policy self.old.scheduler) (load_event drawing.old ∷ [])
+            (stage_at K.Sink T.Tap self.old under.old sink.old given watch.old)
+            self.new.scheduler under.new (K.written sink.new)) }
         ensures next { drawing.new ≡ load_next drawing.old }
-        ensures keeps { KeepsShown C.Scheduler W.Recorder K.Sink result self.old self.new sink.old
-            sink.new
-            (sight_of T.kind_of T.state_of watch.old) (sight_of T.kind_of T.state_of watch.new) }
+        ensures keeps { KeepsShown C.Scheduler W.Recorder K.Sink T.Tap result self.old self.new
+            sink.old sink.new watch.old watch.new }
     {
         match drawing.draw() {
             Some(packet) => self.make_arrival(under, sink, watch, &packet, &[]),
@@ -78,17 +76,16 @@ impl<C: Scheduler + Drop, N: NodeNames + Drop, W: DepartureRecorder> Run<C, N, W
         requires fresh { IsFresh self.old.tally }
 
         ensures ok { OnOk result (
-            Makes C.Scheduler (heard_without W.Recorder) (C.policy self.old.scheduler) (load_events count (first_drawing seed))
-            (stage_of self.old under.old (K.written sink.old) 0 (sight_of T.kind_of T.state_of watch.old))
-            (stage_of self.new under.new (K.written sink.new) (arrivals_in (load_events count (first_drawing seed)))
-            (sight_of T.kind_of T.state_of watch.new))) }
+            Makes C.Scheduler (recording_none W.Recorder) (C.policy self.old.scheduler) (load_events count (first_drawing seed))
+            (stage_at K.Sink T.Tap self.old under.old sink.old 0 watch.old)
+            (stage_at K.Sink T.Tap self.new under.new sink.new (arrivals_in (load_events count (first_drawing seed)))
+            watch.new)) }
         ensures err { OnErr result (
-            Stops C.Scheduler (heard_without W.Recorder) (C.policy self.old.scheduler) (load_events count (first_drawing seed))
-            (stage_of self.old under.old (K.written sink.old) 0
-            (sight_of T.kind_of T.state_of watch.old)) self.new.scheduler under.new (K.written sink.new)) }
-        ensures keeps { KeepsShown C.Scheduler W.Recorder K.Sink result self.old self.new sink.old
-            sink.new
-            (sight_of T.kind_of T.state_of watch.old) (sight_of T.kind_of T.state_of watch.new) }
+            Stops C.Scheduler (recording_none W.Recorder) (C.policy self.old.scheduler) (load_events count (first_drawing seed))
+            (stage_at K.Sink T.Tap self.old under.old sink.old 0 watch.old)
+            self.new.scheduler under.new (K.written sink.new)) }
+        ensures keeps { KeepsShown C.Scheduler W.Recorder K.Sink T.Tap result self.old self.new
+            sink.old sink.new watch.old watch.new }
     {
         let mut drawing = Drawing::new(seed);
         for _drawn in 0..count {
@@ -117,17 +114,16 @@ impl<C: Scheduler + Drop, N: NodeNames + Drop, W: DepartureRecorder> Run<C, N, W
         ensures ok { IfOk result (λ t.
             ForEachState C.stands (C.policy self.old.scheduler) self.old.scheduler under.old (λ s.
             IsHeldBelow 1 s.held →
-            MakesLoad C.Scheduler (heard_without W.Recorder) (C.policy self.old.scheduler) seed count s
+            MakesLoad C.Scheduler (recording_none W.Recorder) (C.policy self.old.scheduler) seed count s
             self.old.scheduler under.old self.old.recorder (K.written sink.old)
             self.new.scheduler under.new self.new.recorder (K.written sink.new) t)) }
         ensures err { OnErr result (ForEachState C.stands (C.policy self.old.scheduler)
             self.old.scheduler under.old (λ s.
-            IsHeldBelow 1 s.held → StopsIn C.Scheduler (heard_without W.Recorder) (C.policy self.old.scheduler) 1
+            IsHeldBelow 1 s.held → StopsIn C.Scheduler (recording_none W.Recorder) (C.policy self.old.scheduler) 1
             (load_run (C.policy self.old.scheduler) seed count s) s
             self.old.scheduler under.old self.old.recorder (K.written sink.old) self.new.scheduler under.new (K.written sink.new))) }
-        ensures keeps { KeepsShown C.Scheduler W.Recorder K.Sink result self.old self.new sink.old
-            sink.new
-            (sight_of T.kind_of T.state_of watch.old) (sight_of T.kind_of T.state_of watch.new) }
+        ensures keeps { KeepsShown C.Scheduler W.Recorder K.Sink T.Tap result self.old self.new
+            sink.old sink.new watch.old watch.new }
     {
         let first = self.scheduler.held();
         self.tally = Tally::new();

@@ -64,11 +64,10 @@ impl<C: Scheduler + Drop, N: NodeNames + Drop, W: DepartureRecorder> Run<C, N, W
     ghost use Rattle.sched_defs.specs.Script.{Rest, step_events};
     ghost use Rattle.sched_core.specs.Departures.{next_departed};
     ghost use Rattle.sched_run.specs.Frames.{IsSet, Stand, FromAll, Feeds, HasRoomForOne, HasRoomToDepart, HasRoomForStep, CountsArrival, CountsDepartures, KeepsShown, KeepsPlay, IsFurther};
-    ghost use Rattle.sched_run.specs.Heard.{heard_anyway, heard, heard_with};
-    ghost use Rattle.sched_run.specs.Stages.{stage_of, IsReady, HasRoomFor, AreNext, Makes, Stops};
+    ghost use Rattle.sched_run.specs.RecordingKinds.{recording_any, recording, recording_one};
+    ghost use Rattle.sched_run.specs.Stages.{stage_at, IsReady, HasRoomFor, AreNext, Makes, Stops};
     ghost use Rattle.sched_run.specs.Steps.{step_of};
     ghost use Rattle.sched_run.specs.Turns.{Arrives, ArrivalsStop, Turns, StopsAmid, GoesOn};
-    ghost use Rattle.tap_core.specs.Watching.{sight_of};
 
     /// Makes the arrival of a packet with these captured bytes, records and counts it, and shows it
     /// to the taps that watch if it was dropped.
@@ -89,18 +88,17 @@ impl<C: Scheduler + Drop, N: NodeNames + Drop, W: DepartureRecorder> Run<C, N, W
 
         ensures ok { OnOk result ((given : ℕ) → AreNext (C.policy self.old.scheduler) given
             (packet.now ∷ []) →
-            Makes C.Scheduler (heard_with W.Recorder packet.now captured.now) (C.policy self.old.scheduler) (Arrive packet.now ∷ [])
-            (stage_of self.old under.old (K.written sink.old) given (sight_of T.kind_of T.state_of watch.old))
-            (stage_of self.new under.new (K.written sink.new) (given + 1) (sight_of T.kind_of T.state_of watch.new))) }
+            Makes C.Scheduler (recording_one W.Recorder packet.now captured.now) (C.policy self.old.scheduler) (Arrive packet.now ∷ [])
+            (stage_at K.Sink T.Tap self.old under.old sink.old given watch.old)
+            (stage_at K.Sink T.Tap self.new under.new sink.new (given + 1) watch.new)) }
         ensures err { OnErr result ((given : ℕ) → AreNext (C.policy self.old.scheduler) given
             (packet.now ∷ []) →
-            Stops C.Scheduler (heard_with W.Recorder packet.now captured.now) (C.policy self.old.scheduler) (Arrive packet.now ∷ [])
-            (stage_of self.old under.old (K.written sink.old) given
-            (sight_of T.kind_of T.state_of watch.old)) self.new.scheduler under.new (K.written sink.new)) }
+            Stops C.Scheduler (recording_one W.Recorder packet.now captured.now) (C.policy self.old.scheduler) (Arrive packet.now ∷ [])
+            (stage_at K.Sink T.Tap self.old under.old sink.old given watch.old)
+            self.new.scheduler under.new (K.written sink.new)) }
         ensures counts { CountsArrival W.over result self.old self.new }
-        ensures keeps { KeepsShown C.Scheduler W.Recorder K.Sink result self.old self.new sink.old
-            sink.new
-            (sight_of T.kind_of T.state_of watch.old) (sight_of T.kind_of T.state_of watch.new) }
+        ensures keeps { KeepsShown C.Scheduler W.Recorder K.Sink T.Tap result self.old self.new
+            sink.old sink.new watch.old watch.new }
     {
         let event = self.tally.came + self.tally.asked + 1;
         let arrival = self.scheduler.arrive(under, packet, &mut self.trace)?;
@@ -140,20 +138,18 @@ impl<C: Scheduler + Drop, N: NodeNames + Drop, W: DepartureRecorder> Run<C, N, W
         requires counts { HasRoomFor C.Scheduler self.old (P.given packets.old) }
 
         ensures ok { IfOk result (λ e.
-            Arrives C.Scheduler (heard W.Recorder (P.captures packets.old source.old)) (C.policy self.old.scheduler) 1 e
+            Arrives C.Scheduler (recording W.Recorder (P.captures packets.old source.old)) (C.policy self.old.scheduler) 1 e
             (P.left packets.old source.old) (P.left packets.new source.new)
-            (stage_of self.old under.old (K.written sink.old) (P.given packets.old)
-            (sight_of T.kind_of T.state_of watch.old))
-            (stage_of self.new under.new (K.written sink.new) (P.given packets.new)
-            (sight_of T.kind_of T.state_of watch.new))) }
+            (stage_at K.Sink T.Tap self.old under.old sink.old (P.given packets.old) watch.old)
+            (stage_at K.Sink T.Tap self.new under.new sink.new (P.given packets.new) watch.new)) }
         ensures err { OnErr result (
-            ArrivalsStop C.Scheduler (heard W.Recorder (P.captures packets.old source.old)) (C.policy self.old.scheduler) 1
+            ArrivalsStop C.Scheduler (recording W.Recorder (P.captures packets.old source.old)) (C.policy self.old.scheduler) 1
             (P.left packets.old source.old)
-            (stage_of self.old under.old (K.written sink.old) (P.given packets.old)
-            (sight_of T.kind_of T.state_of watch.old)) self.new.scheduler under.new (K.written sink.new)) }
-        ensures keeps { KeepsPlay C.Scheduler W.Recorder P.Packets K.Sink result self.old self.new
-            packets.old packets.new source.old source.new sink.old sink.new
-            (sight_of T.kind_of T.state_of watch.old) (sight_of T.kind_of T.state_of watch.new) }
+            (stage_at K.Sink T.Tap self.old under.old sink.old (P.given packets.old) watch.old)
+            self.new.scheduler under.new (K.written sink.new)) }
+        ensures keeps { KeepsPlay C.Scheduler W.Recorder P.Packets K.Sink T.Tap result self.old
+            self.new packets.old packets.new source.old source.new sink.old sink.new
+            watch.old watch.new }
         ensures further { IfOk result (λ e. GoesOn e (
             IsFurther P.Packets packets.old packets.new source.old source.new self.old.tally self.new.tally)) }
     {
@@ -191,20 +187,18 @@ impl<C: Scheduler + Drop, N: NodeNames + Drop, W: DepartureRecorder> Run<C, N, W
         requires counts { HasRoomFor C.Scheduler self.old (P.given packets.old) }
 
         ensures ok { IfOk result (λ e.
-            Arrives C.Scheduler (heard W.Recorder (P.captures packets.old source.old)) (C.policy self.old.scheduler) count e
+            Arrives C.Scheduler (recording W.Recorder (P.captures packets.old source.old)) (C.policy self.old.scheduler) count e
             (P.left packets.old source.old) (P.left packets.new source.new)
-            (stage_of self.old under.old (K.written sink.old) (P.given packets.old)
-            (sight_of T.kind_of T.state_of watch.old))
-            (stage_of self.new under.new (K.written sink.new) (P.given packets.new)
-            (sight_of T.kind_of T.state_of watch.new))) }
+            (stage_at K.Sink T.Tap self.old under.old sink.old (P.given packets.old) watch.old)
+            (stage_at K.Sink T.Tap self.new under.new sink.new (P.given packets.new) watch.new)) }
         ensures err { OnErr result (
-            ArrivalsStop C.Scheduler (heard W.Recorder (P.captures packets.old source.old)) (C.policy self.old.scheduler) count
+            ArrivalsStop C.Scheduler (recording W.Recorder (P.captures packets.old source.old)) (C.policy self.old.scheduler) count
             (P.left packets.old source.old)
-            (stage_of self.old under.old (K.written sink.old) (P.given packets.old)
-            (sight_of T.kind_of T.state_of watch.old)) self.new.scheduler under.new (K.written sink.new)) }
-        ensures keeps { KeepsPlay C.Scheduler W.Recorder P.Packets K.Sink result self.old self.new
-            packets.old packets.new source.old source.new sink.old sink.new
-            (sight_of T.kind_of T.state_of watch.old) (sight_of T.kind_of T.state_of watch.new) }
+            (stage_at K.Sink T.Tap self.old under.old sink.old (P.given packets.old) watch.old)
+            self.new.scheduler under.new (K.written sink.new)) }
+        ensures keeps { KeepsPlay C.Scheduler W.Recorder P.Packets K.Sink T.Tap result self.old
+            self.new packets.old packets.new source.old source.new sink.old sink.new
+            watch.old watch.new }
         ensures further { IfOk result (λ e. IfNone e (
             IsFurther P.Packets packets.old packets.new source.old source.new self.old.tally self.new.tally)) }
     {
@@ -234,21 +228,19 @@ impl<C: Scheduler + Drop, N: NodeNames + Drop, W: DepartureRecorder> Run<C, N, W
         requires counts { HasRoomFor C.Scheduler self.old (P.given packets.old) }
 
         ensures ok { IfOk result (λ e.
-            Turns C.Scheduler (heard W.Recorder (P.captures packets.old source.old)) (C.policy self.old.scheduler) Rest e
+            Turns C.Scheduler (recording W.Recorder (P.captures packets.old source.old)) (C.policy self.old.scheduler) Rest e
             (P.left packets.old source.old) (P.left packets.new source.new)
-            (stage_of self.old under.old (K.written sink.old) (P.given packets.old)
-            (sight_of T.kind_of T.state_of watch.old))
-            (stage_of self.new under.new (K.written sink.new) (P.given packets.new)
-            (sight_of T.kind_of T.state_of watch.new))) }
+            (stage_at K.Sink T.Tap self.old under.old sink.old (P.given packets.old) watch.old)
+            (stage_at K.Sink T.Tap self.new under.new sink.new (P.given packets.new) watch.new)) }
         ensures err { OnErr result (
-            StopsAmid C.Scheduler (heard W.Recorder (P.captures packets.old source.old)) (C.policy self.old.scheduler)
+            StopsAmid C.Scheduler (recording W.Recorder (P.captures packets.old source.old)) (C.policy self.old.scheduler)
             (λ l s. step_events Rest l.packets s)
             (P.left packets.old source.old)
-            (stage_of self.old under.old (K.written sink.old) (P.given packets.old)
-            (sight_of T.kind_of T.state_of watch.old)) self.new.scheduler under.new (K.written sink.new)) }
-        ensures keeps { KeepsPlay C.Scheduler W.Recorder P.Packets K.Sink result self.old self.new
-            packets.old packets.new source.old source.new sink.old sink.new
-            (sight_of T.kind_of T.state_of watch.old) (sight_of T.kind_of T.state_of watch.new) }
+            (stage_at K.Sink T.Tap self.old under.old sink.old (P.given packets.old) watch.old)
+            self.new.scheduler under.new (K.written sink.new)) }
+        ensures keeps { KeepsPlay C.Scheduler W.Recorder P.Packets K.Sink T.Tap result self.old
+            self.new packets.old packets.new source.old source.new sink.old sink.new
+            watch.old watch.new }
         ensures further { IfOk result (λ e. IfNone e (
             IsFurther P.Packets packets.old packets.new source.old source.new self.old.tally self.new.tally)) }
     {
@@ -276,20 +268,19 @@ impl<C: Scheduler + Drop, N: NodeNames + Drop, W: DepartureRecorder> Run<C, N, W
         requires room { HasRoomToDepart C.Scheduler self.old 1 }
 
         ensures ok { OnOk result ((given : ℕ) →
-            Makes C.Scheduler (heard_anyway W.Recorder) (C.policy self.old.scheduler) (Depart start ∷ [])
-            (stage_of self.old under.old (K.written sink.old) given (sight_of T.kind_of T.state_of watch.old))
-            (stage_of self.new under.new (K.written sink.new) given (sight_of T.kind_of T.state_of watch.new))) }
+            Makes C.Scheduler (recording_any W.Recorder) (C.policy self.old.scheduler) (Depart start ∷ [])
+            (stage_at K.Sink T.Tap self.old under.old sink.old given watch.old)
+            (stage_at K.Sink T.Tap self.new under.new sink.new given watch.new)) }
         ensures err { OnErr result ((given : ℕ) →
-            Stops C.Scheduler (heard_anyway W.Recorder) (C.policy self.old.scheduler) (Depart start ∷ [])
-            (stage_of self.old under.old (K.written sink.old) given
-            (sight_of T.kind_of T.state_of watch.old)) self.new.scheduler under.new (K.written sink.new)) }
+            Stops C.Scheduler (recording_any W.Recorder) (C.policy self.old.scheduler) (Depart start ∷ [])
+            (stage_at K.Sink T.Tap self.old under.old sink.old given watch.old)
+            self.new.scheduler under.new (K.written sink.new)) }
         ensures value { IfOk result (λ len. FromAll C.Scheduler self.old under.old (λ s.
             len ≡ option_map (λ d. d.len) (next_departed (C.policy self.old.scheduler) s))) }
         ensures counts { CountsDepartures (λ n. n ≡ self.old.tally.asked + 1) result self.old.tally
             self.new.tally }
-        ensures keeps { KeepsShown C.Scheduler W.Recorder K.Sink result self.old self.new sink.old
-            sink.new
-            (sight_of T.kind_of T.state_of watch.old) (sight_of T.kind_of T.state_of watch.new) }
+        ensures keeps { KeepsShown C.Scheduler W.Recorder K.Sink T.Tap result self.old self.new
+            sink.old sink.new watch.old watch.new }
     {
         let event = self.tally.came + self.tally.asked + 1;
         let departed = self.recorder.depart(
@@ -330,17 +321,16 @@ impl<C: Scheduler + Drop, N: NodeNames + Drop, W: DepartureRecorder> Run<C, N, W
         requires room { HasRoomToDepart C.Scheduler self.old count }
 
         ensures ok { OnOk result ((given : ℕ) →
-            Makes C.Scheduler (heard_anyway W.Recorder) (C.policy self.old.scheduler) (replicate count (Depart None))
-            (stage_of self.old under.old (K.written sink.old) given (sight_of T.kind_of T.state_of watch.old))
-            (stage_of self.new under.new (K.written sink.new) given (sight_of T.kind_of T.state_of watch.new))) }
+            Makes C.Scheduler (recording_any W.Recorder) (C.policy self.old.scheduler) (replicate count (Depart None))
+            (stage_at K.Sink T.Tap self.old under.old sink.old given watch.old)
+            (stage_at K.Sink T.Tap self.new under.new sink.new given watch.new)) }
         ensures err { OnErr result ((given : ℕ) →
-            Stops C.Scheduler (heard_anyway W.Recorder) (C.policy self.old.scheduler) (replicate count (Depart None))
-            (stage_of self.old under.old (K.written sink.old) given
-            (sight_of T.kind_of T.state_of watch.old)) self.new.scheduler under.new (K.written sink.new)) }
+            Stops C.Scheduler (recording_any W.Recorder) (C.policy self.old.scheduler) (replicate count (Depart None))
+            (stage_at K.Sink T.Tap self.old under.old sink.old given watch.old)
+            self.new.scheduler under.new (K.written sink.new)) }
         ensures came { self.new.tally.came ≡ self.old.tally.came }
-        ensures keeps { KeepsShown C.Scheduler W.Recorder K.Sink result self.old self.new sink.old
-            sink.new
-            (sight_of T.kind_of T.state_of watch.old) (sight_of T.kind_of T.state_of watch.new) }
+        ensures keeps { KeepsShown C.Scheduler W.Recorder K.Sink T.Tap result self.old self.new
+            sink.old sink.new watch.old watch.new }
     {
         for _made in 0..count {
             self.depart_next(under, sink, watch, None)?;
@@ -365,20 +355,18 @@ impl<C: Scheduler + Drop, N: NodeNames + Drop, W: DepartureRecorder> Run<C, N, W
         requires counts { HasRoomForStep C.Scheduler self.old (P.given packets.old) (step_of step) }
 
         ensures ok { IfOk result (λ e.
-            Turns C.Scheduler (heard W.Recorder (P.captures packets.old source.old)) (C.policy self.old.scheduler) (step_of step) e
+            Turns C.Scheduler (recording W.Recorder (P.captures packets.old source.old)) (C.policy self.old.scheduler) (step_of step) e
             (P.left packets.old source.old) (P.left packets.new source.new)
-            (stage_of self.old under.old (K.written sink.old) (P.given packets.old)
-            (sight_of T.kind_of T.state_of watch.old))
-            (stage_of self.new under.new (K.written sink.new) (P.given packets.new)
-            (sight_of T.kind_of T.state_of watch.new))) }
+            (stage_at K.Sink T.Tap self.old under.old sink.old (P.given packets.old) watch.old)
+            (stage_at K.Sink T.Tap self.new under.new sink.new (P.given packets.new) watch.new)) }
         ensures err { OnErr result (
-            StopsAmid C.Scheduler (heard W.Recorder (P.captures packets.old source.old)) (C.policy self.old.scheduler)
+            StopsAmid C.Scheduler (recording W.Recorder (P.captures packets.old source.old)) (C.policy self.old.scheduler)
             (λ l s. step_events (step_of step) l.packets s) (P.left packets.old source.old)
-            (stage_of self.old under.old (K.written sink.old) (P.given packets.old)
-            (sight_of T.kind_of T.state_of watch.old)) self.new.scheduler under.new (K.written sink.new)) }
-        ensures keeps { KeepsPlay C.Scheduler W.Recorder P.Packets K.Sink result self.old self.new
-            packets.old packets.new source.old source.new sink.old sink.new
-            (sight_of T.kind_of T.state_of watch.old) (sight_of T.kind_of T.state_of watch.new) }
+            (stage_at K.Sink T.Tap self.old under.old sink.old (P.given packets.old) watch.old)
+            self.new.scheduler under.new (K.written sink.new)) }
+        ensures keeps { KeepsPlay C.Scheduler W.Recorder P.Packets K.Sink T.Tap result self.old
+            self.new packets.old packets.new source.old source.new sink.old sink.new
+            watch.old watch.new }
         ensures further { IfOk result (λ e. IfNone e (
             IsFurther P.Packets packets.old packets.new source.old source.new self.old.tally self.new.tally)) }
     {

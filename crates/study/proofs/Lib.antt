@@ -3,7 +3,9 @@ pub mod RecordedRuns
 pub mod RunLaws
 pub mod JsonLaws
 pub mod LabelLaws
+pub mod ResultLaws
 pub mod SumLaws
 pub mod SizeTexts
 pub mod SizeLaws
 pub mod EndLaws
+pub mod InputLaws

@@ -11,9 +11,9 @@ pub use Rattle.policy_defs.specs.Numbers.{number_at}
 pub use Rattle.policy_defs.specs.Policy.{Policy, Node, node_at}
 pub use Rattle.policy_rules.specs.Resolved.{Resolved, AreClassesOf, Declared, classes_in}
 pub use Rattle.replay_app.proofs.AnswerLaws.{pace_ends, same_status, told-later, forward_ends, is_stop}
-pub use Rattle.replay_app.proofs.FollowLaws.{accepted_told, refused_told, exactly_told}
-pub use Rattle.replay_app.specs.Answer.{IsTold, Answer, text_alone, Each}
-pub use Rattle.replay_app.specs.Policies.{judged_of, IsPolicy, Judged}
+pub use Rattle.replay_app.proofs.FollowLaws.{exactly_told}
+pub use Rattle.replay_app.specs.Answer.{IsTold, Answer, text_alone}
+pub use Rattle.replay_app.specs.Policies.{policy_file_of, IsPolicy, PolicyFile}
 pub use Rattle.replay_app.specs.Scripts.{ending_status}
 pub use Rattle.replay_app.specs.Statuses.{run_status, status_code, IsOneOf, pace_statuses, forward_status}
 pub use Rattle.replay_app.specs.declared.status.Status.{Status}
@@ -30,12 +30,13 @@ pub use Rattle.size_core.specs.Laws.{Fits}
 pub use Rattle.size_core.specs.declared.limits.Overflow.{Overflow}
 pub use Rattle.size_core.specs.declared.size.Sizes.{Sizes}
 pub use Rattle.summary_core.specs.declared.group.Label.{Label}
-pub use Rattle.tree_defs.specs.Topology.{topology_of, Topology, complete}
-pub use Rattle.tree_defs.specs.Tree.{Tree, Address, LeadsBelow, LeadsToLeaf, SameShape, Trees, inner, leaf, more, nodes, none}
+pub use Rattle.tree_defs.specs.Topology.{topology_of, Topology}
+pub use Rattle.tree_defs.specs.Tree.{Tree, Address, LeadsBelow, LeadsToLeaf, Trees, inner, leaf, more, nodes, none}
 pub use Rattle.study.specs.Files.{drive_files, IsSummedUp, target_of, with_target}
 pub use Rattle.study.specs.Labels.{leaf_index, class_labels, held_labels, leaf_labels, leaf_table, all_leaf_labels, class_label, is_leaf_at, is_leaf_below, label_of, leaf_label}
-pub use Rattle.study.specs.Recorded.{HasRecordedPart, IsPartOf, IsRefusedRun, IsWholeRun, AreCutShort, AreRecorded, HasRecorded}
-pub use Rattle.study.specs.SizeRuns.{shown, AreRunSizes, IsSized, size_status, sized}
-pub use Rattle.study.specs.SumRuns.{IsToldOr, ending_line, AreRunSums, AreSumsWritten, HasNames, IsSummed, IsTextOf, LacksRoom, render, sum_rate, summed}
+pub use Rattle.study.specs.Places.{policy_in, laid_of, policy_file_in}
+pub use Rattle.study.specs.Recorded.{HasRecordedPart, IsPartOf, IsRefusedRun, IsWholeRun, HasRecorded}
+pub use Rattle.study.specs.SizeRuns.{shown, IsSized, size_status}
+pub use Rattle.study.specs.SumRuns.{IsToldOr, ending_line, AreRunSums, AreSumsWritten, HasNames, IsSummed, IsTextOf, LacksRoom, render, sum_rate, IsResult, results}
 pub use Rattle.study.specs.declared.sums.Form.{Form}
 pub use Rattle.study.specs.declared.sums.Form.TheVariants.{Json, Text}

@@ -1,5 +1,5 @@
 -- Runs over a capture that may be known to the contract.
-use Rattle.study.proofs.Prelude.{ap, ◌≡◌, List, ℕ, Option, None, Some, Err, Ok, Result, IfOk, IfSome, appended_nothing, prefix_of_nothing, Appended, AppendedPrefix, Stop, Resolved, pace_ends, exactly_told, IsTold, Answer, run_status, status_code, IsOneOf, pace_statuses, forward_status, Status, Ending, CanEndSo}
+use Rattle.study.proofs.Prelude.{ap, ◌≡◌, List, ℕ, Option, None, Some, Err, Ok, Result, IfOk, IfSome, Appended, AppendedPrefix, Stop, Resolved, pace_ends, exactly_told, IsTold, run_status, status_code, IsOneOf, pace_statuses, forward_status, Status, Ending, CanEndSo}
 use Rattle.sched_defs.specs.declared.rate.LinkRate.{LinkRate}
 use Rattle.sched_run.specs.declared.pace.Pace as code
 use Rattle.sched_capture.specs.Forwards.{forward_answer}
@@ -23,7 +23,3 @@ module _ (policy : Resolved) (old new : Option (List ℕ)) where
 pub ending_statuses : (pace : code.Pace) (e : Ending) (r : Result Status Stop) → CanEndSo pace e → IfOk r (λ s. s ≡ run_status e) → IfOk r (λ s. IsOneOf (pace_statuses pace) (status_code s))
 ending_statuses pace e (Ok s) can is = rw is (pace_ends pace e can)
 ending_statuses pace e (Err stop) can is = tt
-
--- ---- a stop before anything is written
-pub nothing_told : (output : Answer → Type 0) (stop : Stop) (a : Option (List ℕ)) → IsTold output (Err stop) a a
-nothing_told output stop a = record { whole = tt; part = λ x is. prefix_of_nothing a a x.text (appended_nothing a) }

@@ -2,6 +2,8 @@ pub mod Recorded
 pub mod Files
 pub mod JsonRuns
 pub mod Labels
+pub mod Places
+pub mod Prepared
 pub mod SumRuns
 pub mod SizeRuns
 pub mod Studied

@@ -1,5 +1,5 @@
 -- Runs that say how large the target's queues get.
-use Rattle.std.specs.Prelude.{◌≡◌, ℕ, Option, None, Some, option_map, List, ◌++◌}
+use Rattle.std.specs.Prelude.{◌≡◌, ℕ, Option, None, Some, List}
 use Rattle.policy_defs.specs.Policy.{Policy}
 use Rattle.policy_rules.specs.Resolved.{Resolved}
 use Rattle.sched_defs.specs.SourceState.{start}
@@ -8,11 +8,9 @@ use Rattle.sched_defs.specs.Pace.{Pace}
 use Rattle.sched_defs.specs.declared.ending.Ending.{Ending}
 use Rattle.sched_defs.specs.declared.ending.Ending.TheVariants.{Whole, BadCapture, PastLast}
 use Rattle.sched_embedded.specs.Laid.{Laid}
-use Rattle.sched_capture.specs.declared.fabric.Placement.{Placement}
 use Rattle.sched_capture.specs.Answers.{RunAnswer, paced_answer}
-use Rattle.replay_app.specs.Answer.{Answer, text_alone}
+use Rattle.replay_app.specs.Answer.{Answer}
 use Rattle.replay_app.specs.Output.{direct_run}
-use Rattle.replay_app.specs.Scripts.{ending_status}
 use Rattle.replay_app.specs.Statuses.{run_status, status_code}
 use Rattle.replay_app.specs.declared.status.Status.{Status}
 use Rattle.replay_app.specs.declared.status.Status.TheVariants.{OverLimit}
@@ -22,14 +20,10 @@ use Rattle.size_core.specs.declared.size.Sizes.{Sizes}
 use Rattle.size_core.specs.Sizes.{AreSizesOf, sizes_after}
 use Rattle.size_core.specs.Text.{sizes_text}
 use Rattle.size_core.specs.Json.{sizes_json}
-use Rattle.study.specs.SumRuns.{ending_line}
+use Rattle.study.specs.SumRuns.{IsResult}
 use Rattle.study.specs.declared.parts.Measure.{Measure}
 use Rattle.study.specs.declared.sums.Form.{Form}
 use Rattle.study.specs.declared.sums.Form.TheVariants.{Text, Json}
-
--- where a placement lays the policy's tree
-abbrev pub laid_of : Option Placement → Option Laid
-laid_of place = option_map (λ p. record { images = p.map; arities = p.target.arities }) place
 
 -- the rendering of each form
 abbrev pub shown : Form → Sizes → Option Widths → List ℕ
@@ -47,12 +41,9 @@ size_status (Some o) (PastLast event) = run_status (PastLast event)
 abbrev pub AreRunSizes : Measure → Laid → Policy → List Event → Sizes → Type 0
 AreRunSizes m laid policy events r = AreSizesOf laid policy (sizes_after laid policy m.limits m.stores 1 (outcomes policy events (start policy))) r
 
--- A file that is no capture gives the line that a report gives. Otherwise the sizes are written,
--- with the error's line after them if the run didn't end whole.
-pub data IsSized (show : Sizes → Option Widths → List ℕ) (m : Measure) (laid : Laid) (policy : Policy) (answer : RunAnswer) : Answer → Type 0 where
-  none_begun : answer.events ≡ None → IsSized show m laid policy answer (text_alone (ending_status answer.ending) answer.text)
-  sized : (events : List Event) (r : Sizes) → answer.events ≡ Some events → AreRunSizes m laid policy events r
-      → IsSized show m laid policy answer (text_alone (status_code (size_status r.overflow answer.ending)) (show r m.widths ++ ending_line answer.ending))
+-- the sizes of a run are written
+abbrev pub IsSized : (Sizes → Option Widths → List ℕ) → Measure → Laid → Policy → RunAnswer → Answer → Type 0
+IsSized show m laid policy answer = IsResult (AreRunSizes m laid policy) (λ r e. status_code (size_status r.overflow e)) (λ r. show r m.widths) answer
 
 -- without a target the report is written
 abbrev pub IsSizedIn : (Sizes → Option Widths → List ℕ) → Measure → Option Laid → Resolved → Pace → List ℕ → Answer → Type 0

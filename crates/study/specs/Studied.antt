@@ -6,7 +6,6 @@ use Rattle.tree_defs.specs.Topology.{Topology, topology_of}
 use Rattle.policy_rules.specs.Resolved.{Resolved}
 use Rattle.sched_defs.specs.Pace as pace
 use Rattle.sched_defs.specs.declared.rate.LinkRate.{LinkRate}
-use Rattle.target_core.specs.declared.target.Target.{Target}
 use Rattle.sched_capture.specs.Answers.{paced_answer}
 use Rattle.sched_capture.specs.Forwards.{forward_answer}
 use Rattle.sched_embedded.specs.Laid.{Laid}
@@ -16,7 +15,7 @@ use Rattle.summary_core.specs.Text.{summary_text}
 use Rattle.summary_core.specs.Json.{summary_json}
 use Rattle.replay_app.specs.Answer.{Answer, IsGiven, text_alone}
 use Rattle.replay_app.specs.Output.{direct_run}
-use Rattle.replay_app.specs.Policies.{Judged, UnderPolicy}
+use Rattle.replay_app.specs.Policies.{PolicyFile, UnderPolicy}
 use Rattle.replay_app.specs.Scripts.{AlongScript, script_pace}
 use Rattle.replay_app.specs.Statuses.{status_code, forward_status}
 use Rattle.replay_app.specs.Targets.{ForTarget, WithRoom}
@@ -30,51 +29,39 @@ use Rattle.study.specs.declared.parts.Study.{Study}
 use Rattle.study.specs.declared.parts.View.{View}
 use Rattle.study.specs.declared.parts.View.TheVariants.{Report, Json, Summary, JsonSummary, Size, JsonSize}
 
--- The target needs room for a policy's tree. A run through a target gives the output of a run
--- through the policy's own tree.
-abbrev pub FitsIn : Target → Topology → (Option Laid → Answer → Type 0) → Answer → Type 0
-FitsIn target tree after = WithRoom tree target (λ laid. after (Some laid))
-
--- the target is read
-abbrev pub ForTargetText : List ℕ → Topology → (Option Laid → Answer → Type 0) → Answer → Type 0
-ForTargetText text tree after = ForTarget text (λ target. FitsIn target tree after)
-
--- the target, if there is one, is read
+-- The target, if there is one, is read, and needs room for a policy's tree. A run through a target
+-- gives the output of a run through the policy's own tree.
 abbrev pub InTarget : Option (List ℕ) → Topology → (List ℕ → List ℕ) → (Option Laid → Answer → Type 0) → Answer → Type 0
 InTarget None tree contents after = after None
-InTarget (Some t) tree contents after = ForTargetText (contents t) tree after
+InTarget (Some t) tree contents after = ForTarget (contents t) (λ target. WithRoom tree target (λ laid. after (Some laid)))
 
 -- the output of a run over a capture, by its view
-abbrev pub IsViewed : View → Option Laid → Judged → pace.Pace → List ℕ → Answer → Type 0
-IsViewed Report laid judged paced capture = λ a. a ≡ direct_run judged.policy paced capture
-IsViewed Json laid judged paced capture = λ a. a ≡ json_run judged.policy paced capture
-IsViewed Summary laid judged paced capture = IsSummed summary_text judged paced (paced_answer judged.policy paced capture)
-IsViewed JsonSummary laid judged paced capture = IsSummed summary_json judged paced (paced_answer judged.policy paced capture)
-IsViewed (Size m) laid judged paced capture = IsSizedIn sizes_text m laid judged.policy paced capture
-IsViewed (JsonSize m) laid judged paced capture = IsSizedIn sizes_json m laid judged.policy paced capture
+abbrev pub IsViewed : View → Option Laid → PolicyFile → pace.Pace → List ℕ → Answer → Type 0
+IsViewed Report laid policy_file paced capture = λ a. a ≡ direct_run policy_file.policy paced capture
+IsViewed Json laid policy_file paced capture = λ a. a ≡ json_run policy_file.policy paced capture
+IsViewed Summary laid policy_file paced capture = IsSummed summary_text policy_file paced (paced_answer policy_file.policy paced capture)
+IsViewed JsonSummary laid policy_file paced capture = IsSummed summary_json policy_file paced (paced_answer policy_file.policy paced capture)
+IsViewed (Size m) laid policy_file paced capture = IsSizedIn sizes_text m laid policy_file.policy paced capture
+IsViewed (JsonSize m) laid policy_file paced capture = IsSizedIn sizes_json m laid policy_file.policy paced capture
 
 -- the departures of a link as a capture, and the status of the run
 abbrev pub departures : Resolved → LinkRate → List ℕ → Answer
 departures policy rate capture = text_alone (status_code (forward_status (forward_answer policy rate capture).ending)) (forward_answer policy rate capture).text
 
--- the output of a run along the steps of the script of this name
-abbrev pub AlongSteps : List ℕ → View → Option Laid → Judged → List ℕ → (List ℕ → List ℕ) → Answer → Type 0
-AlongSteps e view laid judged capture contents = AlongScript (contents e) (λ steps. IsViewed view laid judged (script_pace steps) capture)
-
 -- the output of a run over a capture, by what paces it
-abbrev pub IsDriven : Drive → View → Option Laid → Judged → List ℕ → (List ℕ → List ℕ) → Answer → Type 0
-IsDriven (Script e) view laid judged capture contents = AlongSteps e.now view laid judged capture contents
-IsDriven (Link rate) view laid judged capture contents = IsViewed view laid judged (pace.Link rate) capture
-IsDriven (Forward rate) view laid judged capture contents = λ a. a ≡ departures judged.policy rate capture
+abbrev pub IsDriven : Drive → View → Option Laid → PolicyFile → List ℕ → (List ℕ → List ℕ) → Answer → Type 0
+IsDriven (Script e) view laid policy_file capture contents = AlongScript (contents e.now) (λ steps. IsViewed view laid policy_file (script_pace steps) capture)
+IsDriven (Link rate) view laid policy_file capture contents = IsViewed view laid policy_file (pace.Link rate) capture
+IsDriven (Forward rate) view laid policy_file capture contents = λ a. a ≡ departures policy_file.policy rate capture
 
 -- The output of a study for the contents of its files. Inputs are rejected or accepted in this
 -- order: the policy, the target, the target's room for the policy's tree, the script, and the
 -- capture, which is part of the run.
 abbrev pub IsStudied : Study → (List ℕ → List ℕ) → Answer → Type 0
 IsStudied s contents =
-    UnderPolicy s.latest (contents s.policy.now) (λ judged.
-    InTarget (target_of s) (topology_of judged.policy.policy.tree) contents (λ laid.
-    IsDriven s.drive s.view laid judged (contents s.capture.now) contents))
+    UnderPolicy s.latest (contents s.policy.now) (λ policy_file.
+    InTarget (target_of s) (topology_of policy_file.policy.policy.tree) contents (λ laid.
+    IsDriven s.drive s.view laid policy_file (contents s.capture.now) contents))
 
 -- The run is summed up, and a sum had no room: nothing is written, with the status of a departure
 -- that starts too late. Runs of fewer than 2^32 packets always have room, unless a delay is 2^64

@@ -15,7 +15,7 @@ use Rattle.sched_capture.specs.Answers.{RunAnswer}
 use Rattle.summary_core.specs.OfRun.{AreSumsOf}
 use Rattle.summary_core.specs.declared.group.Groups.{Groups}
 use Rattle.replay_app.specs.Answer.{Answer, IsTold, text_alone}
-use Rattle.replay_app.specs.Policies.{Judged}
+use Rattle.replay_app.specs.Policies.{PolicyFile}
 use Rattle.replay_app.specs.Scripts.{ending_status}
 use Rattle.replay_app.specs.declared.status.Status.{Status}
 use Rattle.replay_app.specs.declared.status.Status.TheVariants.{LateStart}
@@ -40,22 +40,25 @@ ending_line (BadCapture code place) = fault_line (codes "capture") code place
 ending_line (PastLast event) = fault_line (codes "script") past_last event
 
 -- the groups of a run under a policy: all packets, those of each leaf and those of each class
-abbrev pub AreRunSums : Judged → LinkRate → List Event → Groups → Type 0
-AreRunSums judged rate events gs =
-    AreSumsOf (leaf_table judged.policy.policy) rate (outcomes judged.policy.policy events (start judged.policy.policy))
-    (all_leaf_labels judged.policy.policy.tree) (class_labels judged.entries) gs
+abbrev pub AreRunSums : PolicyFile → LinkRate → List Event → Groups → Type 0
+AreRunSums policy_file rate events gs =
+    AreSumsOf (leaf_table policy_file.policy.policy) rate (outcomes policy_file.policy.policy events (start policy_file.policy.policy))
+    (all_leaf_labels policy_file.policy.policy.tree) (class_labels policy_file.entries) gs
 
 -- the rendering of each form
 abbrev pub render : Form → Groups → List ℕ
 render Text = summary_text
 render Json = summary_json
 
--- A file that is no capture gives the line that a report gives. Otherwise the sums are written,
--- with the error's line after them if the run didn't end whole.
-pub data IsSummed (render : Groups → List ℕ) (judged : Judged) (pace : Pace) (answer : RunAnswer) : Answer → Type 0 where
-  none_begun : answer.events ≡ None → IsSummed render judged pace answer (text_alone (ending_status answer.ending) answer.text)
-  summed : (events : List Event) (gs : Groups) → answer.events ≡ Some events → AreRunSums judged (sum_rate pace) events gs
-      → IsSummed render judged pace answer (text_alone (ending_status answer.ending) (render gs ++ ending_line answer.ending))
+-- A file that is no capture gives the line that a report gives. Otherwise a result of the run is
+-- written, with the error's line after it if the run didn't end whole.
+pub data IsResult {X : Type 0} (of_run : List Event → X → Type 0) (status : X → Ending → ℕ) (text : X → List ℕ) (answer : RunAnswer) : Answer → Type 0 where
+  none_begun : answer.events ≡ None → IsResult of_run status text answer (text_alone (ending_status answer.ending) answer.text)
+  results : (events : List Event) (x : X) → answer.events ≡ Some events → of_run events x → IsResult of_run status text answer (text_alone (status x answer.ending) (text x ++ ending_line answer.ending))
+
+-- the sums of a run are written
+abbrev pub IsSummed : (Groups → List ℕ) → PolicyFile → Pace → RunAnswer → Answer → Type 0
+IsSummed render policy_file pace answer = IsResult (AreRunSums policy_file (sum_rate pace)) (λ gs e. ending_status e) render answer
 
 -- a sum had no room: nothing is written, and the status is that of a late start
 pub record LacksRoom (sums : Type 0) (r : Result Status Stop) (old new : Option (List ℕ)) : Type 0 where
@@ -68,8 +71,8 @@ abbrev pub IsToldOr : Type 0 → (Answer → Type 0) → Result Status Stop → 
 IsToldOr sums output r old new = IsTold output r old new ⊎ LacksRoom sums r old new
 
 -- each class has one name
-abbrev pub HasNames : Judged → Type 0
-HasNames judged = length (class_labels judged.entries) ≤ length judged.policy.policy.classes
+abbrev pub HasNames : PolicyFile → Type 0
+HasNames policy_file = length (class_labels policy_file.entries) ≤ length policy_file.policy.policy.classes
 
 -- ---- what is written of a summary
 -- the text is that of the groups of a summary with these labels

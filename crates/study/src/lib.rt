@@ -3,12 +3,14 @@
 #![tactic(auto)]
 
 mod command;
+mod execution;
 mod labels;
 mod parts;
+mod place;
+mod preparation;
 mod recorded;
 mod runs;
 mod sizes;
-mod stages;
 mod sums;
 mod views;
 

@@ -1,13 +1,10 @@
 //! Runs over a capture whose outcomes are recorded in another form than a report.
 ghost use Rattle.std.specs.Prelude.{◌≡◌, ◌<◌, false, IfOk, IfSome, IsTrue, OnOk, OnErr};
-ghost use Rattle.sched_defs.specs.SourceState.{start};
-ghost use Rattle.sched_defs.specs.Events.{CanMake};
 ghost use Rattle.sched_capture.specs.CapturePackets.{left_of};
-ghost use Rattle.sched_run.specs.Courses.{course_of};
 ghost use Rattle.sched_run.specs.Steps.{pace_of, IsBounded, CanEndSo};
 ghost use Rattle.sched_capture.specs.Answers.{answer_of, paced_answer};
-ghost use Rattle.study.specs.Recorded.{AreRecorded, AreCutShort, HasRecorded, HasRecordedPart, IfRecorded, ending_in};
-ghost use Rattle.sched_capture.specs.Placements.{IsPlaced, CanCount};
+ghost use Rattle.study.specs.Recorded.{IsWholeRun, HasRecorded, HasRecordedPart, IfRecorded, ending_in};
+ghost use Rattle.sched_capture.specs.Placements.{CanCount};
 ghost use Rattle.sched_capture.specs.Starts.{IsAtStart, AreUnread};
 ghost use Rattle.sched_run.specs.Stages.{IsFresh};
 ghost use Rattle.sched_capture.specs.Outside.{KeepsOutside};
@@ -15,7 +12,7 @@ ghost use Rattle.sched_capture.specs.Outside.{KeepsOutside};
 use fabric_core::Fabric;
 use outside_core::{Shelf, Sink, Stop};
 use policy_core::Policy;
-use sched_capture::{CapturePackets, Placement, Task, begin, direct_run, run_through};
+use sched_capture::{CapturePackets, LaidPolicy, Task, begin, direct_run, run_through};
 use sched_core::Scheduler;
 use sched_defs::Ending;
 use sched_run::{DepartureRecorder, NameTable, Pace, Run};
@@ -50,19 +47,13 @@ fn record_packets<C: Scheduler + Drop, S: Shelf, K: Sink, W: DepartureRecorder>(
     requires unread { AreUnread policy.now.policy packets.old (S.begun shelf.old) }
     requires bounded { IsBounded pace }
 
-    ensures ending { IfOk result (λ e. IfSome (left_of packets.old (S.left shelf.old)) (λ l.
-        e ≡ (answer_of policy.now.policy (pace_of pace.entry) l.packets l.fault).ending)) }
-    ensures recorded { OnOk result (IfSome (left_of packets.old (S.left shelf.old)) (λ l.
-        AreRecorded W.records policy.now.policy
-        (course_of policy.now.policy pace.entry l (start policy.now.policy) 1).events
-        run.old.recorder (K.written sink.old) run.new.recorder (K.written sink.new))) }
-    ensures can { OnOk result (IfSome (left_of packets.old (S.left shelf.old)) (λ l.
-        CanMake policy.now.policy
-        (course_of policy.now.policy pace.entry l (start policy.now.policy) 1).events
-        (start policy.now.policy))) }
+    ensures whole { IfOk result (λ e. IfSome (left_of packets.old (S.left shelf.old)) (λ l.
+        IsWholeRun W.Recorder policy.now.policy
+        (answer_of policy.now.policy (pace_of pace.entry) l.packets l.fault)
+        run.old.recorder (K.written sink.old) e run.new.recorder (K.written sink.new))) }
     ensures part { OnErr result (IfSome (left_of packets.old (S.left shelf.old)) (λ l.
-        AreCutShort W.cuts policy.now.policy
-        (course_of policy.now.policy pace.entry l (start policy.now.policy) 1).events
+        HasRecordedPart W.Recorder policy.now.policy
+        (answer_of policy.now.policy (pace_of pace.entry) l.packets l.fault)
         run.old.recorder (K.written sink.old) (K.written sink.new))) }
     ensures ends { IfOk result (CanEndSo pace.entry) }
     ensures live { OnOk result (W.live run.new.recorder) }
@@ -156,11 +147,10 @@ pub fn record_own<S: Shelf, K: Sink, W: DepartureRecorder>(
     record_over(alloc, policy, run, &mut tree, task, shelf, sink)
 }
 
-/// The same through a fabric into which a map lays the policy's tree.
+/// The same through a fabric into which the policy's tree is laid.
 pub fn record_through<S: Shelf, K: Sink, F: Fabric, W: DepartureRecorder>(
     alloc: Global,
-    policy: &Policy,
-    placement: Placement,
+    laid: LaidPolicy,
     task: &Task<'_, '_>,
     recorder: W,
     shelf: &mut S,
@@ -171,20 +161,22 @@ pub fn record_through<S: Shelf, K: Sink, F: Fabric, W: DepartureRecorder>(
     requires endless { (w : W) → W.over w ≡ false }
     requires lent { IsTrue (S.lends shelf.old task.now.capture.now) }
     requires bounded { IsBounded task.now.pace }
-    requires placed { IsPlaced policy.now.policy placement }
     requires counts { CanCount F.Fabric fabric.old }
 
     ensures recorded { IfOk result (λ r. IfSome (S.content shelf.old task.now.capture.now) (λ file.
-        HasRecorded W.Recorder policy.now.policy (paced_answer policy.now (pace_of task.now.pace) file)
+        HasRecorded W.Recorder laid.policy.policy
+        (paced_answer laid.policy (pace_of task.now.pace) file)
         recorder (K.written sink.old) r (K.written sink.new))) }
     ensures part { OnErr result (IfSome (S.content shelf.old task.now.capture.now) (λ file.
-        HasRecordedPart W.Recorder policy.now.policy (paced_answer policy.now (pace_of task.now.pace) file)
+        HasRecordedPart W.Recorder laid.policy.policy
+        (paced_answer laid.policy (pace_of task.now.pace) file)
         recorder (K.written sink.old) (K.written sink.new))) }
     ensures ends { IfOk result (λ r. CanEndSo task.now.pace (ending_in r)) }
     ensures live { IfOk result (λ r. IfRecorded r W.live) }
     ensures outside { KeepsOutside result S.faults shelf.old shelf.new K.written K.faults sink.old
         sink.new }
 {
-    let run = run_through(alloc, policy, placement, recorder, fabric)?;
-    record_over(alloc, policy, run, fabric, task, shelf, sink)
+    let (policy, target, map) = laid.into_parts();
+    let run = run_through(alloc, &policy, &target, map, recorder, fabric)?;
+    record_over(alloc, &policy, run, fabric, task, shelf, sink)
 }

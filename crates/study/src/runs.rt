@@ -6,26 +6,26 @@ ghost use Rattle.sched_run.specs.Steps.{pace_of, IsBounded, CanEndSo};
 ghost use Rattle.sched_capture.specs.Answers.{paced_answer};
 ghost use Rattle.sched_capture.specs.Forwards.{forward_answer};
 ghost use Rattle.study.specs.Recorded.{HasRecorded, HasRecordedPart, IfRecorded, ending_in};
-ghost use Rattle.sched_capture.specs.Placements.{IsPlaced, CanCount};
+ghost use Rattle.study.specs.Places.{policy_in};
+ghost use Rattle.sched_capture.specs.Placements.{CanCount};
 ghost use Rattle.replay_app.specs.Causes.{HasCauses};
 ghost use Rattle.sched_capture.specs.Outside.{IsReported, KeepsOutside};
 
+use crate::place::Place;
 use crate::recorded::{Recorded, record_own, record_through};
 use fabric_core::Fabric;
 use outside_core::{Shelf, Sink, Stop};
-use policy_core::Policy;
-use sched_capture::{Ending, ForwardEnding, Placement, Task, direct, forward, forward_own, replay};
+use sched_capture::{Ending, ForwardEnding, Task, direct, forward, forward_own, replay};
 use sched_defs::LinkRate;
 use sched_run::DepartureRecorder;
 use std::alloc::Global;
 use tap_core::{Named, OrderTap, Watching};
 
 /// Runs a task and writes its report. The packets go through the fabric if the policy's tree is
-/// placed, and otherwise through the policy's own tree.
+/// laid there, and otherwise through the policy's own tree.
 pub fn write_report<S: Shelf, K: Sink, F: Fabric>(
     alloc: Global,
-    policy: &Policy,
-    place: Option<Placement>,
+    place: Place,
     task: &Task<'_, '_>,
     shelf: &mut S,
     sink: &mut K,
@@ -33,37 +33,33 @@ pub fn write_report<S: Shelf, K: Sink, F: Fabric>(
 ) -> Result<Ending, Stop>
     requires lent { IsTrue (S.lends shelf.old task.now.capture.now) }
     requires bounded { IsBounded task.now.pace }
-    requires placed { IfSome place (IsPlaced policy.now.policy) }
     requires counts { CanCount F.Fabric fabric.old }
 
     ensures report { IfSome (S.content shelf.old task.now.capture.now) (λ file.
-        IsReported result (paced_answer policy.now (pace_of task.now.pace) file)
+        IsReported result (paced_answer (policy_in place) (pace_of task.now.pace) file)
         (K.written sink.old) (K.written sink.new)) }
     ensures ends { IfOk result (CanEndSo task.now.pace) }
     ensures causes { HasCauses result (S.faults shelf.old) (S.faults shelf.new) (K.faults sink.old)
         (K.faults sink.new) }
 {
     match place {
-        None => direct(alloc, policy, task, shelf, sink),
-        Some(placement) => {
+        Place::Own(policy) => direct(alloc, &policy, task, shelf, sink),
+        Place::Laid(laid) => {
             let mut watch: Watching<OrderTap> = Watching::new(
                 alloc,
                 Named::none(),
                 Vec::new(alloc),
             );
-            replay(
-                alloc, policy, placement, task, shelf, sink, fabric, &mut watch,
-            )
+            replay(alloc, laid, task, shelf, sink, fabric, &mut watch)
         }
     }
 }
 
 /// Runs a link over a capture, and writes the departures as a capture. The packets go through the
-/// fabric if the policy's tree is placed, and otherwise through the policy's own tree.
+/// fabric if the policy's tree is laid there, and otherwise through the policy's own tree.
 pub fn write_departures<S: Shelf, K: Sink, F: Fabric>(
     alloc: Global,
-    policy: &Policy,
-    place: Option<Placement>,
+    place: Place,
     capture: &str,
     rate: LinkRate,
     shelf: &mut S,
@@ -72,31 +68,31 @@ pub fn write_departures<S: Shelf, K: Sink, F: Fabric>(
 ) -> Result<ForwardEnding, Stop>
     requires lent { IsTrue (S.lends shelf.old capture.now) }
     requires rate { IsRate rate }
-    requires placed { IfSome place (IsPlaced policy.now.policy) }
     requires counts { CanCount F.Fabric fabric.old }
 
     ensures ending { IfOk result (λ e. IfSome (S.content shelf.old capture.now) (λ file.
-        e ≡ (forward_answer policy.now rate file).ending)) }
+        e ≡ (forward_answer (policy_in place) rate file).ending)) }
     ensures text { OnOk result (IfSome (S.content shelf.old capture.now) (λ file.
-        Appended (K.written sink.old) (K.written sink.new) (forward_answer policy.now rate file).text)) }
+        Appended (K.written sink.old) (K.written sink.new)
+        (forward_answer (policy_in place) rate file).text)) }
     ensures part { OnErr result (IfSome (S.content shelf.old capture.now) (λ file.
-        AppendedPrefix (K.written sink.old) (K.written sink.new) (forward_answer policy.now rate file).text)) }
+        AppendedPrefix (K.written sink.old) (K.written sink.new)
+        (forward_answer (policy_in place) rate file).text)) }
     ensures causes { HasCauses result (S.faults shelf.old) (S.faults shelf.new) (K.faults sink.old)
         (K.faults sink.new) }
 {
     match place {
-        None => forward_own(alloc, policy, capture, rate, shelf, sink),
-        Some(placement) => forward(alloc, policy, placement, capture, rate, shelf, sink, fabric),
+        Place::Own(policy) => forward_own(alloc, &policy, capture, rate, shelf, sink),
+        Place::Laid(laid) => forward(alloc, laid, capture, rate, shelf, sink, fabric),
     }
 }
 
 /// Runs a task, and records its outcomes with this recorder, which must never end a run. The
-/// packets go through the fabric if the policy's tree is placed, and otherwise through the policy's
-/// own tree.
+/// packets go through the fabric if the policy's tree is laid there, and otherwise through the
+/// policy's own tree.
 pub fn record<S: Shelf, K: Sink, F: Fabric, W: DepartureRecorder>(
     alloc: Global,
-    policy: &Policy,
-    place: Option<Placement>,
+    place: Place,
     task: &Task<'_, '_>,
     recorder: W,
     shelf: &mut S,
@@ -107,14 +103,15 @@ pub fn record<S: Shelf, K: Sink, F: Fabric, W: DepartureRecorder>(
     requires endless { (w : W) → W.over w ≡ false }
     requires lent { IsTrue (S.lends shelf.old task.now.capture.now) }
     requires bounded { IsBounded task.now.pace }
-    requires placed { IfSome place (IsPlaced policy.now.policy) }
     requires counts { CanCount F.Fabric fabric.old }
 
     ensures recorded { IfOk result (λ r. IfSome (S.content shelf.old task.now.capture.now) (λ file.
-        HasRecorded W.Recorder policy.now.policy (paced_answer policy.now (pace_of task.now.pace) file)
+        HasRecorded W.Recorder (policy_in place).policy
+        (paced_answer (policy_in place) (pace_of task.now.pace) file)
         recorder (K.written sink.old) r (K.written sink.new))) }
     ensures part { OnErr result (IfSome (S.content shelf.old task.now.capture.now) (λ file.
-        HasRecordedPart W.Recorder policy.now.policy (paced_answer policy.now (pace_of task.now.pace) file)
+        HasRecordedPart W.Recorder (policy_in place).policy
+        (paced_answer (policy_in place) (pace_of task.now.pace) file)
         recorder (K.written sink.old) (K.written sink.new))) }
     ensures ends { IfOk result (λ r. CanEndSo task.now.pace (ending_in r)) }
     ensures live { IfOk result (λ r. IfRecorded r W.live) }
@@ -122,9 +119,7 @@ pub fn record<S: Shelf, K: Sink, F: Fabric, W: DepartureRecorder>(
         sink.new }
 {
     match place {
-        None => record_own(alloc, policy, task, recorder, shelf, sink),
-        Some(placement) => record_through(
-            alloc, policy, placement, task, recorder, shelf, sink, fabric,
-        ),
+        Place::Own(policy) => record_own(alloc, &policy, task, recorder, shelf, sink),
+        Place::Laid(laid) => record_through(alloc, laid, task, recorder, shelf, sink, fabric),
     }
 }

@@ -12,18 +12,19 @@ ghost use Rattle.sched_capture.specs.Answers.{paced_answer};
 ghost use Rattle.event_json.specs.Json.{json_end};
 ghost use Rattle.replay_app.specs.Answer.{IsTold};
 ghost use Rattle.replay_app.specs.Output.{direct_run};
-ghost use Rattle.replay_app.specs.Policies.{judged_of};
 ghost use Rattle.replay_app.specs.Statuses.{IsOneOf, pace_statuses, forward_statuses, run_status, status_code};
 ghost use Rattle.study.specs.JsonRuns.{rate_in, json_run};
 ghost use Rattle.study.specs.Files.{IsSum, view_statuses};
 ghost use Rattle.study.specs.SumRuns.{IsSummed, IsToldOr, HasNames, render};
-ghost use Rattle.study.specs.SizeRuns.{IsSized, IsSizedIn, laid_of, shown};
+ghost use Rattle.study.specs.SizeRuns.{IsSized, IsSizedIn, shown};
 ghost use Rattle.study.specs.Studied.{IsViewed, departures};
-ghost use Rattle.sched_capture.specs.Placements.{IsPlaced, CanCount};
+ghost use Rattle.sched_capture.specs.Placements.{laid_by, CanCount};
+ghost use Rattle.study.specs.Places.{policy_in, laid_of, policy_file_in};
 ghost use Rattle.replay_app.specs.Causes.{HasCauses};
 
 use crate::labels::{leaf_table, leaves_of};
 use crate::parts::{Measure, View};
+use crate::place::Place;
 use crate::recorded::{Recorded, record_own};
 use crate::runs::{record, write_departures, write_report};
 use crate::sizes::tell_sizes;
@@ -32,8 +33,9 @@ use event_json::JsonReport;
 use fabric_core::Fabric;
 use outside_core::{Shelf, Sink, Stop};
 use policy_core::Policy;
-use replay_app::{Judged, Status};
-use sched_capture::{Ending, Placement, Task};
+use policy_text::Lines;
+use replay_app::Status;
+use sched_capture::{Ending, LaidPolicy, Task};
 use sched_defs::LinkRate;
 use sched_run::Pace;
 use size_core::Sizing;
@@ -43,8 +45,7 @@ use summary_core::Summary;
 /// Runs a task, and writes its report.
 fn view_report<S: Shelf, K: Sink, F: Fabric>(
     alloc: Global,
-    policy: &Policy,
-    place: Option<Placement>,
+    place: Place,
     task: &Task<'_, '_>,
     shelf: &mut S,
     sink: &mut K,
@@ -52,17 +53,16 @@ fn view_report<S: Shelf, K: Sink, F: Fabric>(
 ) -> Result<Status, Stop>
     requires lent { IsTrue (S.lends shelf.old task.now.capture.now) }
     requires bounded { IsBounded task.now.pace }
-    requires placed { IfSome place (IsPlaced policy.now.policy) }
     requires counts { CanCount F.Fabric fabric.old }
 
     ensures answer { IfSome (S.content shelf.old task.now.capture.now) (λ file.
-        IsTold (λ a. a ≡ direct_run policy.now (pace_of task.now.pace) file) result
+        IsTold (λ a. a ≡ direct_run (policy_in place) (pace_of task.now.pace) file) result
         (K.written sink.old) (K.written sink.new)) }
     ensures statuses { IfOk result (λ s. IsOneOf (pace_statuses task.now.pace) (status_code s)) }
     ensures causes { HasCauses result (S.faults shelf.old) (S.faults shelf.new) (K.faults sink.old)
         (K.faults sink.new) }
 {
-    let ending = write_report(alloc, policy, place, task, shelf, sink, fabric)?;
+    let ending = write_report(alloc, place, task, shelf, sink, fabric)?;
     Ok(Status::of_run(ending))
 }
 
@@ -99,8 +99,7 @@ fn close_json<K: Sink>(recorder: JsonReport, sink: &mut K, ending: Ending) -> Re
 /// Runs a task, and writes its outcomes as JSON lines.
 fn view_json<S: Shelf, K: Sink, F: Fabric>(
     alloc: Global,
-    policy: &Policy,
-    place: Option<Placement>,
+    place: Place,
     task: &Task<'_, '_>,
     shelf: &mut S,
     sink: &mut K,
@@ -108,18 +107,17 @@ fn view_json<S: Shelf, K: Sink, F: Fabric>(
 ) -> Result<Status, Stop>
     requires lent { IsTrue (S.lends shelf.old task.now.capture.now) }
     requires bounded { IsBounded task.now.pace }
-    requires placed { IfSome place (IsPlaced policy.now.policy) }
     requires counts { CanCount F.Fabric fabric.old }
 
     ensures answer { IfSome (S.content shelf.old task.now.capture.now) (λ file.
-        IsTold (λ a. a ≡ json_run policy.now (pace_of task.now.pace) file) result
+        IsTold (λ a. a ≡ json_run (policy_in place) (pace_of task.now.pace) file) result
         (K.written sink.old) (K.written sink.new)) }
     ensures statuses { IfOk result (λ s. IsOneOf (pace_statuses task.now.pace) (status_code s)) }
     ensures causes { HasCauses result (S.faults shelf.old) (S.faults shelf.new) (K.faults sink.old)
         (K.faults sink.new) }
 {
     let recorder = JsonReport::new(alloc, rate_of(task.pace))?;
-    let recorded = record(alloc, policy, place, task, recorder, shelf, sink, fabric)?;
+    let recorded = record(alloc, place, task, recorder, shelf, sink, fabric)?;
     match recorded {
         Recorded::Whole(ending, recorder) => close_json(recorder, sink, ending),
         Recorded::Refused(ending) => Ok(Status::of_run(ending)),
@@ -130,8 +128,8 @@ fn view_json<S: Shelf, K: Sink, F: Fabric>(
 fn view_sums<S: Shelf, K: Sink, F: Fabric>(
     alloc: Global,
     form: Form,
-    judged: &Judged,
-    place: Option<Placement>,
+    lines: &Lines,
+    place: Place,
     task: &Task<'_, '_>,
     shelf: &mut S,
     sink: &mut K,
@@ -139,30 +137,29 @@ fn view_sums<S: Shelf, K: Sink, F: Fabric>(
 ) -> Result<Status, Stop>
     requires lent { IsTrue (S.lends shelf.old task.now.capture.now) }
     requires bounded { IsBounded task.now.pace }
-    requires placed { IfSome place (IsPlaced judged.now.policy.policy) }
     requires counts { CanCount F.Fabric fabric.old }
 
-    ensures answer { HasNames (judged_of judged.now) → IfSome (S.content shelf.old
+    ensures answer { HasNames (policy_file_in lines.now place) → IfSome (S.content shelf.old
         task.now.capture.now) (λ file.
-        IsToldOr (Unit {0}) (IsSummed (render form) (judged_of judged.now) (pace_of task.now.pace)
-        (paced_answer judged.now.policy (pace_of task.now.pace) file)) result
-        (K.written sink.old) (K.written sink.new)) }
+        IsToldOr (Unit {0}) (IsSummed (render form) (policy_file_in lines.now place)
+        (pace_of task.now.pace) (paced_answer (policy_in place) (pace_of task.now.pace) file))
+        result (K.written sink.old) (K.written sink.new)) }
     ensures statuses { IfOk result (λ s. IsOneOf (14 ∷ pace_statuses task.now.pace)
         (status_code s)) }
     ensures causes { HasCauses result (S.faults shelf.old) (S.faults shelf.new) (K.faults sink.old)
         (K.faults sink.new) }
 {
-    let policy = &judged.policy;
+    let policy = place.policy();
     let leaves = leaves_of(alloc, policy)?;
     let table = leaf_table(alloc, policy, &leaves)?;
     let summary = Summary::new(alloc, sum_rate(task.pace), table, leaves.labels.len())?;
-    let recorded = record(alloc, policy, place, task, summary, shelf, sink, fabric)?;
+    let recorded = record(alloc, place, task, summary, shelf, sink, fabric)?;
     match recorded {
         Recorded::Whole(ending, mut summary) => {
             tell_sums(
                 alloc,
                 form,
-                &judged.lines,
+                lines,
                 &leaves.labels,
                 &mut summary,
                 ending,
@@ -186,31 +183,29 @@ fn view_sizes<S: Shelf, K: Sink>(
     alloc: Global,
     form: Form,
     measure: &Measure,
-    policy: &Policy,
-    place: &Placement,
+    laid: &LaidPolicy,
     task: &Task<'_, '_>,
     shelf: &mut S,
     sink: &mut K,
 ) -> Result<Status, Stop>
     requires lent { IsTrue (S.lends shelf.old task.now.capture.now) }
     requires bounded { IsBounded task.now.pace }
-    requires placed { IsPlaced policy.now.policy place.now }
 
     ensures answer { IfSome (S.content shelf.old task.now.capture.now) (λ file.
-        IsTold (IsSized (shown form) measure.now
-        (record { images = place.now.map; arities = place.now.target.arities }) policy.now.policy
-        (paced_answer policy.now (pace_of task.now.pace) file)) result
+        IsTold (IsSized (shown form) measure.now (laid_by laid.now) laid.now.policy.policy
+        (paced_answer laid.now.policy (pace_of task.now.pace) file)) result
         (K.written sink.old) (K.written sink.new)) }
     ensures statuses { IfOk result (λ s. IsOneOf (1 ∷ pace_statuses task.now.pace)
         (status_code s)) }
     ensures causes { HasCauses result (S.faults shelf.old) (S.faults shelf.new) (K.faults sink.old)
         (K.faults sink.new) }
 {
+    let policy = laid.policy();
     let sizing = Sizing::new(
         alloc,
         policy,
-        &place.map,
-        &place.target,
+        laid.map(),
+        laid.target(),
         measure.limits,
         measure.stores,
     )?;
@@ -225,13 +220,12 @@ fn view_sizes<S: Shelf, K: Sink>(
     }
 }
 
-/// The same if the policy's tree is placed. Otherwise writes the report.
+/// The same if the policy's tree is laid into a target. Otherwise writes the report.
 fn view_sizes_in<S: Shelf, K: Sink, F: Fabric>(
     alloc: Global,
     form: Form,
     measure: &Measure,
-    policy: &Policy,
-    place: Option<Placement>,
+    place: Place,
     task: &Task<'_, '_>,
     shelf: &mut S,
     sink: &mut K,
@@ -239,11 +233,10 @@ fn view_sizes_in<S: Shelf, K: Sink, F: Fabric>(
 ) -> Result<Status, Stop>
     requires lent { IsTrue (S.lends shelf.old task.now.capture.now) }
     requires bounded { IsBounded task.now.pace }
-    requires placed { IfSome place (IsPlaced policy.now.policy) }
     requires counts { CanCount F.Fabric fabric.old }
 
     ensures answer { IfSome (S.content shelf.old task.now.capture.now) (λ file.
-        IsTold (IsSizedIn (shown form) measure.now (laid_of place) policy.now
+        IsTold (IsSizedIn (shown form) measure.now (laid_of place) (policy_in place)
         (pace_of task.now.pace) file) result (K.written sink.old) (K.written sink.new)) }
     ensures statuses { IfOk result (λ s. IsOneOf (1 ∷ pace_statuses task.now.pace)
         (status_code s)) }
@@ -251,10 +244,8 @@ fn view_sizes_in<S: Shelf, K: Sink, F: Fabric>(
         (K.faults sink.new) }
 {
     match place {
-        None => view_report(alloc, policy, None, task, shelf, sink, fabric),
-        Some(placement) => {
-            view_sizes(alloc, form, measure, policy, &placement, task, shelf, sink)
-        }
+        Place::Own(policy) => view_report(alloc, Place::Own(policy), task, shelf, sink, fabric),
+        Place::Laid(laid) => view_sizes(alloc, form, measure, &laid, task, shelf, sink),
     }
 }
 
@@ -262,8 +253,8 @@ fn view_sizes_in<S: Shelf, K: Sink, F: Fabric>(
 pub fn write_view<S: Shelf, K: Sink, F: Fabric>(
     alloc: Global,
     view: View,
-    judged: &Judged,
-    place: Option<Placement>,
+    lines: &Lines,
+    place: Place,
     task: &Task<'_, '_>,
     shelf: &mut S,
     sink: &mut K,
@@ -271,28 +262,26 @@ pub fn write_view<S: Shelf, K: Sink, F: Fabric>(
 ) -> Result<Status, Stop>
     requires lent { IsTrue (S.lends shelf.old task.now.capture.now) }
     requires bounded { IsBounded task.now.pace }
-    requires placed { IfSome place (IsPlaced judged.now.policy.policy) }
     requires counts { CanCount F.Fabric fabric.old }
 
-    ensures answer { HasNames (judged_of judged.now) → IfSome (S.content shelf.old
+    ensures answer { HasNames (policy_file_in lines.now place) → IfSome (S.content shelf.old
         task.now.capture.now) (λ file.
-        IsToldOr (IsSum view) (IsViewed view (laid_of place) (judged_of judged.now) (pace_of task.now.pace) file) result
-        (K.written sink.old) (K.written sink.new)) }
+        IsToldOr (IsSum view) (IsViewed view (laid_of place) (policy_file_in lines.now place)
+        (pace_of task.now.pace) file) result (K.written sink.old) (K.written sink.new)) }
     ensures statuses { IfOk result (λ s. IsOneOf (view_statuses view (pace_statuses task.now.pace))
         (status_code s)) }
     ensures causes { HasCauses result (S.faults shelf.old) (S.faults shelf.new) (K.faults sink.old)
         (K.faults sink.new) }
 {
     match view {
-        View::Report => view_report(alloc, &judged.policy, place, task, shelf, sink, fabric),
-        View::Json => view_json(alloc, &judged.policy, place, task, shelf, sink, fabric),
-        View::Summary => view_sums(alloc, Form::Text, judged, place, task, shelf, sink, fabric),
-        View::JsonSummary => view_sums(alloc, Form::Json, judged, place, task, shelf, sink, fabric),
+        View::Report => view_report(alloc, place, task, shelf, sink, fabric),
+        View::Json => view_json(alloc, place, task, shelf, sink, fabric),
+        View::Summary => view_sums(alloc, Form::Text, lines, place, task, shelf, sink, fabric),
+        View::JsonSummary => view_sums(alloc, Form::Json, lines, place, task, shelf, sink, fabric),
         View::Size(measure) => view_sizes_in(
             alloc,
             Form::Text,
             &measure,
-            &judged.policy,
             place,
             task,
             shelf,
@@ -303,7 +292,6 @@ pub fn write_view<S: Shelf, K: Sink, F: Fabric>(
             alloc,
             Form::Json,
             &measure,
-            &judged.policy,
             place,
             task,
             shelf,
@@ -316,8 +304,7 @@ pub fn write_view<S: Shelf, K: Sink, F: Fabric>(
 /// Runs a link over a capture, and writes the departures as a capture.
 pub fn view_departures<S: Shelf, K: Sink, F: Fabric>(
     alloc: Global,
-    policy: &Policy,
-    place: Option<Placement>,
+    place: Place,
     capture: &str,
     rate: LinkRate,
     shelf: &mut S,
@@ -326,15 +313,15 @@ pub fn view_departures<S: Shelf, K: Sink, F: Fabric>(
 ) -> Result<Status, Stop>
     requires lent { IsTrue (S.lends shelf.old capture.now) }
     requires rate { IsRate rate }
-    requires placed { IfSome place (IsPlaced policy.now.policy) }
     requires counts { CanCount F.Fabric fabric.old }
 
     ensures answer { IfSome (S.content shelf.old capture.now) (λ file.
-        IsTold (λ a. a ≡ departures policy.now rate file) result (K.written sink.old) (K.written sink.new)) }
+        IsTold (λ a. a ≡ departures (policy_in place) rate file) result
+        (K.written sink.old) (K.written sink.new)) }
     ensures statuses { IfOk result (λ s. IsOneOf forward_statuses (status_code s)) }
     ensures causes { HasCauses result (S.faults shelf.old) (S.faults shelf.new) (K.faults sink.old)
         (K.faults sink.new) }
 {
-    let ending = write_departures(alloc, policy, place, capture, rate, shelf, sink, fabric)?;
+    let ending = write_departures(alloc, place, capture, rate, shelf, sink, fabric)?;
     Ok(Status::of_forward(ending))
 }

@@ -11,7 +11,7 @@ use front_defs::{Command, Options};
 use front_upgrade::reserved_in;
 use front_warnings::{Counts, Walk, capture_warnings, damage_text, policy_warnings};
 use outside_core::FileShelf;
-use replay_app::{Judged, Read as Reading, read_policy};
+use replay_app::{PolicyFile, Read as Reading, read_policy};
 use report_core::FaultKind;
 use std::alloc::AllocError;
 use std::fs::{self, File};
@@ -101,7 +101,7 @@ pub fn add_detail(
 }
 
 /// Reads the policy of a command again, if it isn't a pipe.
-fn judged_again(rt: &HostRuntime, options: &Options<'_>) -> Result<Option<Judged>, AllocError> {
+fn policy_again(rt: &HostRuntime, options: &Options<'_>) -> Result<Option<PolicyFile>, AllocError> {
     let Some(name) = policy_of(options) else {
         return Ok(None);
     };
@@ -109,7 +109,7 @@ fn judged_again(rt: &HostRuntime, options: &Options<'_>) -> Result<Option<Judged
         return Ok(None);
     }
     match read_policy(rt.alloc(), LATEST, &mut FileShelf::new(rt.clone()?), name) {
-        Ok(Reading::Accepted(judged)) => Ok(Some(judged)),
+        Ok(Reading::Accepted(policy_file)) => Ok(Some(policy_file)),
         _ => Ok(None),
     }
 }
@@ -122,7 +122,7 @@ pub fn upgrade_text(
     fault: Fault,
     name: &str,
 ) -> Result<Option<Vec<u8>>, AllocError> {
-    if !options.upgrade || fault.kind != FaultKind::Policy || judged_again(rt, options)?.is_none() {
+    if !options.upgrade || fault.kind != FaultKind::Policy || policy_again(rt, options)?.is_none() {
         return Ok(None);
     }
     let Some(content) = front_of(rt, name)? else {
@@ -153,13 +153,13 @@ fn forward_text(
     name: &str,
 ) -> Result<Option<Vec<u8>>, AllocError> {
     let alloc = rt.alloc();
-    let Some(judged) = judged_again(rt, options)? else {
+    let Some(policy_file) = policy_again(rt, options)? else {
         return Ok(None);
     };
     let Some(mut file) = open_again(rt, name) else {
         return Ok(None);
     };
-    let mut walk = Walk::new(alloc, Some(Counts::new(alloc, &judged.policy)?));
+    let mut walk = Walk::new(alloc, Some(Counts::new(alloc, &policy_file.policy)?));
     if !walk_through(&mut file, &mut walk)? {
         return Ok(None);
     }
@@ -194,7 +194,11 @@ pub fn tell_ending(rt: &HostRuntime, options: &Options<'_>, status: u8) -> Resul
 }
 
 /// Writes the warnings about a capture to standard error. Fails if out of memory.
-fn warn_of_capture(rt: &HostRuntime, name: &str, judged: &Judged) -> Result<(), AllocError> {
+fn warn_of_capture(
+    rt: &HostRuntime,
+    name: &str,
+    policy_file: &PolicyFile,
+) -> Result<(), AllocError> {
     let alloc = rt.alloc();
     match size_of(rt, name) {
         Some(size) if size <= MOST_BYTES => (),
@@ -203,11 +207,11 @@ fn warn_of_capture(rt: &HostRuntime, name: &str, judged: &Judged) -> Result<(), 
     let Some(mut file) = open_again(rt, name) else {
         return Ok(());
     };
-    let mut walk = Walk::new(alloc, Some(Counts::new(alloc, &judged.policy)?));
+    let mut walk = Walk::new(alloc, Some(Counts::new(alloc, &policy_file.policy)?));
     let is_read = walk_through(&mut file, &mut walk)? && walk.end().is_none();
     match walk.into_counts() {
         Some(counts) if is_read => {
-            let text = capture_warnings(alloc, name_shown(name), &counts, &judged.lines)?;
+            let text = capture_warnings(alloc, name_shown(name), &counts, &policy_file.lines)?;
             tell(rt, text.as_bytes());
         }
         _ => (),
@@ -218,14 +222,14 @@ fn warn_of_capture(rt: &HostRuntime, name: &str, judged: &Judged) -> Result<(), 
 /// Writes the warnings about a command's policy and capture to standard error. Fails if out of
 /// memory.
 pub fn warn(rt: &HostRuntime, options: &Options<'_>) -> Result<(), AllocError> {
-    let Some(judged) = judged_again(rt, options)? else {
+    let Some(policy_file) = policy_again(rt, options)? else {
         return Ok(());
     };
     let name = name_shown(policy_of(options).unwrap_or("policy"));
-    let text = policy_warnings(rt.alloc(), name, &judged.lines)?;
+    let text = policy_warnings(rt.alloc(), name, &policy_file.lines)?;
     tell(rt, text.as_bytes());
     match capture_of(options) {
-        Some(capture) => warn_of_capture(rt, capture, &judged),
+        Some(capture) => warn_of_capture(rt, capture, &policy_file),
         None => Ok(()),
     }
 }

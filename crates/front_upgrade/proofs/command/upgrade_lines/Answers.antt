@@ -1,7 +1,7 @@
 use Rattle.std.proofs.Common.{subst, sym, List, ℕ}
 use Rattle.report_core.specs.declared.fault.FaultKind.TheVariants as kind
 use Rattle.replay_app.proofs.FollowLaws.{accepted_told, refused_told}
-use Rattle.replay_app.specs.Policies.{judged_of, entries_in, IsPolicyRead}
+use Rattle.replay_app.specs.Policies.{policy_file_of, entries_in, IsPolicyRead}
 use Rattle.front_upgrade.specs.Upgraded.{latest, IsUpgradeRefused, at}
 use Rattle.front_upgrade.proofs.OneLaws.{upgrades_are_one}
 use Rattle.front_upgrade.proofs.command.upgrade_lines.Goals as goal
@@ -12,7 +12,7 @@ returns-in-Accepted-clause-answer g c =
     λ sound.
     let read = subst (λ (t : List ℕ). IsPolicyRead latest t c.in_ok-again.field-0) (c.in_ok-text.ensures sound) c.in_ok-again.ensures.read in
     let is = rw c.in-Accepted.is at read in
-    accepted_told kind.Policy _ _ _ (upgrades_are_one es) c.write_upgraded.result _ _ (judged_of c.in-Accepted.again) is (c.write_upgraded.ensures.answer sound)
+    accepted_told kind.Policy _ _ _ (upgrades_are_one es) c.write_upgraded.result _ _ (policy_file_of c.in-Accepted.again) is (c.write_upgraded.ensures.answer sound)
 
 pub returns-in-Refused-clause-answer : goal.returns-in-Refused-clause-answer
 returns-in-Refused-clause-answer g c =

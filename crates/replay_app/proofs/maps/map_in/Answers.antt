@@ -15,8 +15,8 @@ returns-in-Ok-clause-read c = record {
 
 pub returns-clause-read : goal.returns-clause-read
 returns-clause-read c =
-    subst (λ (r : Refusal). IsMapRefused c.args.policy.now.policy c.args.text.now r.code r.place) (sym c.in_ok-told_of-in-Err.ensures.told)
-    (map_refused c.args.policy.now.policy c.args.text.now _ c.policy_edition.ensures _ c.in_ok-names.ensures.names c.read_map.result c.in-Err.fault c.in-Err.is c.in_ok-told_of-in-Err.ensures.memory c.read_map.ensures.answer)
+    subst (λ (r : Refusal). IsMapRefused c.args.policy.now.policy c.args.text.now r.code r.place) (sym c.in_ok-refusal_of-in-Err.ensures.told)
+    (map_refused c.args.policy.now.policy c.args.text.now _ c.policy_edition.ensures _ c.in_ok-names.ensures.names c.read_map.result c.in-Err.fault c.in-Err.is c.in_ok-refusal_of-in-Err.ensures.memory c.read_map.ensures.answer)
 
 pub returns-in-Ok-clause-verdict : goal.returns-in-Ok-clause-verdict
 returns-in-Ok-clause-verdict c =

@@ -1,4 +1,4 @@
-use Rattle.sched_capture.proofs.Prelude.{Some, arith, inr, rules, IfSome_then, on_err_weaker, on_ok_weaker, sink-same, LeavesPart, Laid, forward_through, captures_of, link_of}
+use Rattle.sched_capture.proofs.Prelude.{Some, arith, inr, rules, IfSome_then, on_err_weaker, on_ok_weaker, sink-same, LeavesPart, laid_in, forward_through, captures_of, link_of}
 use Rattle.sched_capture.specs.SingleLinkType.{left_of}
 use Rattle.sched_capture.proofs.FabricRuns.{holds_after, left_before}
 use Rattle.sched_capture.proofs.ForwardFiles.{none_sent}
@@ -14,7 +14,7 @@ returns-in_err-run-clause-part g c =
 
 pub returns-clause-fabric : goal.returns-clause-fabric
 returns-clause-fabric g c =
-    let laid : Laid = record { images = c.args.placement.map; arities = c.args.placement.target.arities } in
+    let laid = laid_in c.args.map c.args.target.now in
     let n = c.in_ok-run.ensures in
     on_ok_weaker c.forward_over.result (λ all. IfSome_then (left_of c.args.packets.now (g.S.Shelf.left c.args.shelf.now)) all
     (λ l made. holds_after g.F.Fabric c.args.policy.now.policy laid c.in_ok-run.run'.scheduler c.args.fabric.now c.run_through.new.fabric n.origin n.start.no_pushes n.start.no_departures n.spilled
@@ -23,7 +23,7 @@ returns-clause-fabric g c =
 
 pub returns-clause-fabric_part : goal.returns-clause-fabric_part
 returns-clause-fabric_part g c =
-    let laid : Laid = record { images = c.args.placement.map; arities = c.args.placement.target.arities } in
+    let laid = laid_in c.args.map c.args.target.now in
     let n = c.in_ok-run.ensures in
     on_err_weaker c.forward_over.result (λ all. IfSome_then (left_of c.args.packets.now (g.S.Shelf.left c.args.shelf.now)) all
     (λ l some. inr (record {
@@ -37,7 +37,7 @@ returns-clause-fabric_part g c =
 
 pub returns-in_err-run-clause-fabric_part : goal.returns-in_err-run-clause-fabric_part
 returns-in_err-run-clause-fabric_part g c =
-    let laid : Laid = record { images = c.args.placement.map; arities = c.args.placement.target.arities } in
+    let laid = laid_in c.args.map c.args.target.now in
     left_before _ (left_of c.args.packets.now (g.S.Shelf.left c.args.shelf.now)) (λ l. LeavesPart g.F.Fabric (Some (forward_through c.args.policy.now.policy laid c.args.rate l)) c.args.fabric.now c.run_through.new.fabric)
     (λ l. c.in_err-run.ensures.part _)
 

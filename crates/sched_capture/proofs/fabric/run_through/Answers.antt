@@ -1,11 +1,11 @@
-use Rattle.sched_capture.proofs.Prelude.{List, arith, sym, [], refl, inr, Event, Laid, on_err_given}
+use Rattle.sched_capture.proofs.Prelude.{List, arith, sym, [], refl, inr, Event, laid_in, on_err_given}
 use Rattle.sched_run.proofs.JoinedEvents.{raised_nothing}
 use Rattle.sched_capture.proofs.FabricRuns.{holds_after}
 use Rattle.sched_capture.proofs.fabric.run_through.Goals as goal
 
 pub returns-in_err-run-clause-part : goal.returns-in_err-run-clause-part
 returns-in_err-run-clause-part g c =
-    let laid : Laid = record { images = c.args.placement.map; arities = c.args.placement.target.arities } in
+    let laid = laid_in c.args.map c.args.target.now in
     let n = c.in_ok-scheduler.ensures in
     on_err_given c.from_residual-in_err-run.result _ (λ (events : List Event). inr (record {
       made = [];

@@ -12,7 +12,7 @@ pub returns-in-Ok-clause-recorded : goal.returns-in-Ok-clause-recorded
 returns-in-Ok-clause-recorded g c =
     let e = c.in_ok-ending-in-Ok.ensures in
     rw c.into_recorder.ensures (whole_over_file g.W.Recorder c.args.policy.now c.args.task.now.pace c.args.run.recorder (g.S.Shelf.content c.args.shelf.now c.args.task.now.capture.now) (left_of c.in-Ok.packets (g.S.Shelf.left c.begin.new.shelf)) _ _ _ _
-    c.in-Ok.ensures.begins e.ending e.can (rw c.in-Ok.ensures.unwritten at e.recorded) e.live)
+    c.in-Ok.ensures.begins (rw c.in-Ok.ensures.unwritten at e.whole))
 
 pub returns-in-Ok-clause-live : goal.returns-in-Ok-clause-live
 returns-in-Ok-clause-live g c = rw c.into_recorder.ensures c.in_ok-ending-in-Ok.ensures.live

@@ -1,7 +1,7 @@
 use Rattle.study.proofs.views.view_sizes_in.Goals as goal
 
-pub returns-in-None-clause-answer : goal.returns-in-None-clause-answer
-returns-in-None-clause-answer g c = rw c.in-None.is c.view_report.ensures.answer
+pub returns-in-Own-clause-answer : goal.returns-in-Own-clause-answer
+returns-in-Own-clause-answer g c = rw c.in-Own.is c.view_report.ensures.answer
 
-pub returns-in-Some-clause-answer : goal.returns-in-Some-clause-answer
-returns-in-Some-clause-answer g c = rw c.in-Some.is c.view_sizes.ensures.answer
+pub returns-in-Laid-clause-answer : goal.returns-in-Laid-clause-answer
+returns-in-Laid-clause-answer g c = rw c.in-Laid.is c.view_sizes.ensures.answer

@@ -1,7 +1,9 @@
-use Rattle.study.proofs.Prelude.{◌∙◌, refl, inr, err_from_is_err_and, pace_ends, judged_of, pace_of}
+use Rattle.std.proofs.lemmas.Option.{IfSome_then}
+use Rattle.study.proofs.Prelude.{◌∙◌, refl, inl, inr, err_from_is_err_and, pace_ends, paced_answer, policy_in, policy_file_in, pace_of}
 use Rattle.summary_core.specs.contracts.recorder.SummaryRecorder.TheImpl.{ghosts}
 use Rattle.study.proofs.LabelLaws.{held_labels_are}
-use Rattle.study.proofs.SumLaws.{sums_unread, sums_refused, sums_stopped, sums_closed, sum_statuses}
+use Rattle.study.proofs.ResultLaws.{if_told, refused_out, stopped_out, unwritten_out}
+use Rattle.study.proofs.SumLaws.{sums_closed, sum_statuses}
 use Rattle.study.proofs.views.view_sums.Goals as goal
 
 pub record-requires-clause-endless : goal.record-requires-clause-endless
@@ -10,35 +12,35 @@ record-requires-clause-endless g c = λ w. refl
 pub returns-in_err-leaves-clause-answer : goal.returns-in_err-leaves-clause-answer
 returns-in_err-leaves-clause-answer g c = λ names.
     let p = err_from_is_err_and c.from_residual.result c.from_residual.ensures.1 in
-    rw (p.1) (sums_unread (judged_of c.args.judged.now) (pace_of c.args.task.now.pace) c.args.form _ _ _ _)
+    rw (p.1) (if_told _ (λ file. inl (unwritten_out _ _ _ _ _ _ _ refl)))
 
 pub returns-in_err-table-clause-answer : goal.returns-in_err-table-clause-answer
 returns-in_err-table-clause-answer g c = λ names.
     let p = err_from_is_err_and c.from_residual-in_err-table.result c.from_residual-in_err-table.ensures.1 in
-    rw (p.1) (sums_unread (judged_of c.args.judged.now) (pace_of c.args.task.now.pace) c.args.form _ _ _ _)
+    rw (p.1) (if_told _ (λ file. inl (unwritten_out _ _ _ _ _ _ _ refl)))
 
 pub returns-in_err-summary-clause-answer : goal.returns-in_err-summary-clause-answer
 returns-in_err-summary-clause-answer g c = λ names.
     let p = err_from_is_err_and c.from_residual-in_err-summary.result c.from_residual-in_err-summary.ensures.1 in
-    rw (p.1) (sums_unread (judged_of c.args.judged.now) (pace_of c.args.task.now.pace) c.args.form _ _ _ _)
+    rw (p.1) (if_told _ (λ file. inl (unwritten_out _ _ _ _ _ _ _ refl)))
 
 pub returns-in_err-recorded-clause-answer : goal.returns-in_err-recorded-clause-answer
 returns-in_err-recorded-clause-answer g c = λ names.
     let p = err_from_is_err_and c.from_residual-in_err-recorded.result c.from_residual-in_err-recorded.ensures.1 in
-    rw (p.1) (sums_stopped (judged_of c.args.judged.now) (pace_of c.args.task.now.pace) c.args.form _ _ ghosts (λ captured a b os v r. r) (λ captured a b os r. r) _ _ _ _ c.in_err-recorded.ensures.part)
+    rw (p.1) (IfSome_then _ c.in_err-recorded.ensures.part (λ file part. inl (stopped_out _ _ _ (paced_answer (policy_in c.args.place) (pace_of c.args.task.now.pace) file) ghosts _ (policy_in c.args.place).policy (λ captured a b os cut. cut) _ _ _ _ refl part)))
 
 pub returns-in-Whole-clause-answer : goal.returns-in-Whole-clause-answer
 returns-in-Whole-clause-answer g c = λ names.
-    let judged = judged_of c.args.judged.now in
     let nothing = rw (c.len.ensures ∙ c.in_ok-leaves.leaves.labels.ok.0) at (rw c.sum_rate.ensures.rate at c.in_ok-summary.ensures) in
     let told = c.tell_sums.ensures in
-    sums_closed judged (pace_of c.args.task.now.pace) c.args.form _ _ ghosts (λ captured a b os v r. r) (λ captured a b os r. r) c.leaf_table.ensures.accepted names _ _ _ nothing
-    c.in_ok-table.ensures.table c.in_ok-leaves.ensures.labels (held_labels_are c.args.judged.now.lines.held) _ _ _ c.tell_sums.result _ _ _ (rw c.in-Whole.is at c.in_ok-recorded.ensures.recorded)
-    told.room told.status (rw c.deref.ensures.value at told.text) (rw c.deref.ensures.value at told.part)
+    let same = c.policy-policy.ensures.policy in
+    IfSome_then _ (rw c.in-Whole.is at c.in_ok-recorded.ensures.recorded) (λ file run. sums_closed (policy_file_in c.args.lines.now c.args.place) (pace_of c.args.task.now.pace) c.args.form (rw same at c.leaf_table.ensures.accepted) names _ _ _ _ nothing
+    (rw same at c.in_ok-table.ensures.table) (rw same at c.in_ok-leaves.ensures.labels) (held_labels_are c.args.lines.now.held) _ _ _ _ c.tell_sums.result _ _ _ run
+    told.room told.status (rw c.deref.ensures.value at told.text) (rw c.deref.ensures.value at told.part))
 
 pub returns-clause-answer : goal.returns-clause-answer
 returns-clause-answer g c = λ names.
-    rw (c.of_run.ensures) (sums_refused (judged_of c.args.judged.now) (pace_of c.args.task.now.pace) c.args.form _ _ _ _ _ (rw c.in-Refused.is at c.in_ok-recorded.ensures.recorded))
+    rw (c.of_run.ensures) (IfSome_then _ (rw c.in-Refused.is at c.in_ok-recorded.ensures.recorded) (λ file run. inl (refused_out _ _ _ _ _ _ _ run)))
 
 pub returns-in-Whole-clause-statuses : goal.returns-in-Whole-clause-statuses
 returns-in-Whole-clause-statuses g c =

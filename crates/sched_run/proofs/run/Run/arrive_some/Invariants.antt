@@ -1,4 +1,4 @@
-use Rattle.sched_run.proofs.Prelude.{None, KeepsSink, sight_of, AreNoMore, Continues, KeepsPackets, IsFurther, heard, stage_of, Arrives}
+use Rattle.sched_run.proofs.Prelude.{None, KeepsSink, sight_of, AreNoMore, Continues, KeepsPackets, IsFurther, recording, stage_of, Arrives}
 use Rattle.sched_run.proofs.run.Run.arrive_some.Given as goal
 
 abbrev pub invariant-loop-sent : goal.invariant-loop-sent
@@ -8,7 +8,7 @@ invariant-loop-sent g l =
     let written = g.K.Sink.written in
     let sight = sight_of g.T.Tap.kind_of g.T.Tap.state_of in
     record {
-      arrives : Arrives S (heard g.W.Recorder (P.captures l.fn.packets l.fn.source)) (S.policy l.fn.self.scheduler) l._sent None (P.left l.fn.packets l.fn.source) (P.left l.packets l.source)
+      arrives : Arrives S (recording g.W.Recorder (P.captures l.fn.packets l.fn.source)) (S.policy l.fn.self.scheduler) l._sent None (P.left l.fn.packets l.fn.source) (P.left l.packets l.source)
           (stage_of l.fn.self l.fn.under (written l.fn.sink) (P.given l.fn.packets) (sight l.fn.watch))
           (stage_of l.self l.under (written l.sink) (P.given l.packets) (sight l.watch));
       further : IsFurther P l.fn.packets l.packets l.fn.source l.source l.fn.self.tally l.self.tally;

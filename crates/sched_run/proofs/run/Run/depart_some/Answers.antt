@@ -1,13 +1,13 @@
-use Rattle.sched_run.proofs.Prelude.{ℕ, arith, None, ◌∙◌, ◌≡◌, refl, sym, ◌+◌, ap, replicate, err_from_is_err_and, sink-then, sink-same, departures_count, Depart, any_bytes, heard_anyway}
+use Rattle.sched_run.proofs.Prelude.{ℕ, arith, None, ◌∙◌, ◌≡◌, refl, sym, ◌+◌, ap, replicate, err_from_is_err_and, sink-then, sink-same, departures_count, Depart, any_bytes, recording_any}
 use Rattle.sched_run.proofs.FrameLaws.{continues_then}
 use Rattle.sched_run.proofs.MadeEvents.{held_bounded, makes_none, departures_more, departures_cut}
 use Rattle.sched_run.proofs.PacketsInTurn.{one_after}
-use Rattle.sched_run.proofs.HeardLaws.{heard-joined}
+use Rattle.sched_run.proofs.RecordingLaws.{recording-joined}
 use Rattle.sched_run.proofs.run.Run.depart_some.Goals as goal
 
 pub loop-made-init : goal.loop-made-init
 loop-made-init g c = record {
-  makes = λ given. makes_none g.C.Scheduler (heard_anyway g.W.Recorder) (heard-joined g.W.Recorder g.met.W.Recorder.joined any_bytes) (g.C.Scheduler.policy c.args.self.now.scheduler) _ _ _ _ given given _ _;
+  makes = λ given. makes_none g.C.Scheduler (recording_any g.W.Recorder) (recording-joined g.W.Recorder g.met.W.Recorder.joined any_bytes) (g.C.Scheduler.policy c.args.self.now.scheduler) _ _ _ _ given given _ _;
   came = refl;
   asked = omega arith;
   kept = record { policy = refl; origin = refl; names = refl; version = refl; room = refl };
@@ -22,7 +22,7 @@ depart_next-requires-clause-stands g c =
     let i = c.loop-made.invariant in
     let one = c.requires.stands in
     let bound = held_bounded policy one.state one.sound in
-    let at = one_after g.C.Scheduler (heard_anyway g.W.Recorder) (heard-joined g.W.Recorder g.met.W.Recorder.joined any_bytes) policy c.requires.set.accepted (replicate c.loop-made._made (Depart None)) _ _ (ap (λ (n : ℕ). bound.0 + n) (sym i.came)) (i.makes bound.0)
+    let at = one_after g.C.Scheduler (recording_any g.W.Recorder) (recording-joined g.W.Recorder g.met.W.Recorder.joined any_bytes) policy c.requires.set.accepted (replicate c.loop-made._made (Depart None)) _ _ (ap (λ (n : ℕ). bound.0 + n) (sym i.came)) (i.makes bound.0)
     (record { state = one.state; sound = one.sound; stood = one.stood; has = bound.1 }) in
     rw i.kept.policy (record { state = at.state; sound = at.sound; stood = at.stood; has = tt })
 
@@ -42,7 +42,7 @@ returns-in_err-depart_next-clause-err g c =
     let p = err_from_is_err_and c.from_residual.result c.from_residual.ensures.1 in
     let i = c.loop-made.invariant in
     let stop = rw i.kept.policy at c.in_err-depart_next.ensures.err in
-    rw (p.1) (λ given. departures_cut g.C.Scheduler (heard_anyway g.W.Recorder) (heard-joined g.W.Recorder g.met.W.Recorder.joined any_bytes) (g.C.Scheduler.policy c.args.self.now.scheduler) c.requires.set.accepted c.loop-made._made _ _ refl (i.makes given) c.args.count _ _ _ c.loop-made-test.true (stop given))
+    rw (p.1) (λ given. departures_cut g.C.Scheduler (recording_any g.W.Recorder) (recording-joined g.W.Recorder g.met.W.Recorder.joined any_bytes) (g.C.Scheduler.policy c.args.self.now.scheduler) c.requires.set.accepted c.loop-made._made _ _ refl (i.makes given) c.args.count _ _ _ c.loop-made-test.true (stop given))
 
 pub loop-made-preserved : goal.loop-made-preserved
 loop-made-preserved g c =
@@ -50,7 +50,7 @@ loop-made-preserved g c =
     let e = c.in_ok-depart_next.ensures in
     let made = rw i.kept.policy at e.ok in
     record {
-      makes = λ given. departures_more g.C.Scheduler (heard_anyway g.W.Recorder) (heard-joined g.W.Recorder g.met.W.Recorder.joined any_bytes) (g.C.Scheduler.policy c.args.self.now.scheduler) c.requires.set.accepted c.loop-made._made _ _ refl (i.makes given) _ (made given);
+      makes = λ given. departures_more g.C.Scheduler (recording_any g.W.Recorder) (recording-joined g.W.Recorder g.met.W.Recorder.joined any_bytes) (g.C.Scheduler.policy c.args.self.now.scheduler) c.requires.set.accepted c.loop-made._made _ _ refl (i.makes given) _ (made given);
       came = e.counts.came ∙ i.came;
       asked = omega (arith, e.counts.asked, i.asked);
       kept = continues_then g.C.Scheduler _ _ _ i.kept e.keeps.kept;

@@ -1,4 +1,4 @@
-use Rattle.sched_run.proofs.Prelude.{ℕ, None, ◌≡◌, ◌+◌, replicate, KeepsSink, Depart, sight_of, AreNoMore, Continues, heard_anyway, Makes, stage_of}
+use Rattle.sched_run.proofs.Prelude.{ℕ, None, ◌≡◌, ◌+◌, replicate, KeepsSink, Depart, sight_of, AreNoMore, Continues, recording_any, Makes, stage_of}
 use Rattle.sched_run.proofs.run.Run.depart_some.Given as goal
 
 abbrev pub invariant-loop-made : goal.invariant-loop-made
@@ -7,7 +7,7 @@ invariant-loop-made g l =
     let written = g.K.Sink.written in
     let sight = sight_of g.T.Tap.kind_of g.T.Tap.state_of in
     record {
-      makes : (given : ℕ) → Makes S (heard_anyway g.W.Recorder) (S.policy l.fn.self.scheduler) (replicate l._made (Depart None))
+      makes : (given : ℕ) → Makes S (recording_any g.W.Recorder) (S.policy l.fn.self.scheduler) (replicate l._made (Depart None))
           (stage_of l.fn.self l.fn.under (written l.fn.sink) given (sight l.fn.watch)) (stage_of l.self l.under (written l.sink) given (sight l.watch));
       came : l.self.tally.came ≡ l.fn.self.tally.came;
       asked : l.self.tally.asked ≡ l.fn.self.tally.asked + l._made;

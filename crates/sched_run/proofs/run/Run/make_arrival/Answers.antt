@@ -1,9 +1,9 @@
-use Rattle.sched_run.proofs.Prelude.{ℕ, arith, ◌∙◌, ◌≡◌, refl, sym, List, subst, [], ◌≤◌, ◌∷◌, length, ◌<◌, err_from_is_err_and, Policy, Outcome, class_of, nodes, IsCapturedAs, heard_with, event_of}
+use Rattle.sched_run.proofs.Prelude.{ℕ, arith, ◌∙◌, ◌≡◌, refl, sym, List, subst, [], ◌≤◌, ◌∷◌, length, ◌<◌, err_from_is_err_and, Policy, Outcome, class_of, nodes, IsCapturedAs, recording_one, event_of}
 use Rattle.sched_defs.specs.Events.{Arrive}
 use Rattle.sched_run.proofs.EventLaws.{makes_pushed, makes_dropped}
 use Rattle.sched_run.proofs.JoinedEvents.{cut_none, made_arrival, made_all, made_some_none}
 use Rattle.sched_run.proofs.LineLaws.{arrives, arrival_few, named_leaf, answer_pushed, answer_dropped, outcome_pushed, outcome_dropped}
-use Rattle.sched_run.proofs.HeardLaws.{heard-joined}
+use Rattle.sched_run.proofs.RecordingLaws.{recording-joined}
 use Rattle.sched_run.proofs.run.Run.make_arrival.Goals as goal
 
 pub returns-in_err-arrival-clause-err : goal.returns-in_err-arrival-clause-err
@@ -16,7 +16,7 @@ returns-in_err-arrival-clause-err g c =
       stopped = λ s sound stood below. record {
         leaves = made_some_none S (S.policy c.args.self.now.scheduler) (Arrive c.args.packet.now ∷ []) s (c.in_err-arrival.ensures.state s sound stood).0
             pushes c.in_err-arrival.ensures.counts.departures c.in_err-arrival.ensures.kept.origin c.in_err-arrival.ensures.spilled;
-        cut = cut_none S (heard_with g.W.Recorder c.args.packet.now c.args.captured.now) (heard-joined g.W.Recorder g.met.W.Recorder.joined (IsCapturedAs c.args.packet.now c.args.captured.now)) (S.policy c.args.self.now.scheduler) _ (Arrive c.args.packet.now ∷ []) s c.args.self.now.recorder (g.K.Sink.written c.args.sink.now);
+        cut = cut_none S (recording_one g.W.Recorder c.args.packet.now c.args.captured.now) (recording-joined g.W.Recorder g.met.W.Recorder.joined (IsCapturedAs c.args.packet.now c.args.captured.now)) (S.policy c.args.self.now.scheduler) _ (Arrive c.args.packet.now ∷ []) s c.args.self.now.recorder (g.K.Sink.written c.args.sink.now);
       };
     })
 
@@ -97,7 +97,7 @@ returns-in_ok-arrived-in-Pushed-clause-ok g c =
     let named = named_leaf policy (g.N.NodeNames.policy c.args.self.now.names) (class_of policy c.args.packet.now).leaf c.in-Pushed.leaf c.name-name.result.now c.requires.set.names at first.leaf_is c.name-name.ensures.name in
     let ranks = rw c.in-Pushed.is at e.ranks in
     let told = c.in_ok-arrived-in-Pushed.ensures.ok in
-    λ given next. makes_pushed g.C.Scheduler (heard_with g.W.Recorder c.args.packet.now c.args.captured.now) policy c.args.packet.now _ _ next
+    λ given next. makes_pushed g.C.Scheduler (recording_one g.W.Recorder c.args.packet.now c.args.captured.now) policy c.args.packet.now _ _ next
     (λ s sound stood below. (answer_pushed policy c.args.packet.now s c.in-Pushed.leaf (rw c.in-Pushed.is at (e.answer s sound stood))).fullness)
     refl refl refl refl
     (λ s sound stood below.
@@ -140,7 +140,7 @@ returns-in_ok-dropped-in-Dropped-clause-ok g c =
     let first = answer_dropped policy c.args.packet.now r.state c.in-Dropped.leaf (rw c.in-Dropped.is at (e.answer r.state r.sound r.stood)) in
     let named = named_leaf policy (g.N.NodeNames.policy c.args.self.now.names) (class_of policy c.args.packet.now).leaf c.in-Dropped.leaf c.name-name-in-Dropped.result.now c.requires.set.names at first.leaf_is c.name-name-in-Dropped.ensures.name in
     let told = c.in_ok-dropped-in-Dropped.ensures.ok in
-    λ given next. makes_dropped g.C.Scheduler (heard_with g.W.Recorder c.args.packet.now c.args.captured.now) policy c.args.packet.now _ _ c.in-Dropped.leaf first.leaf_is next
+    λ given next. makes_dropped g.C.Scheduler (recording_one g.W.Recorder c.args.packet.now c.args.captured.now) policy c.args.packet.now _ _ c.in-Dropped.leaf first.leaf_is next
     (λ s sound stood below. (answer_dropped policy c.args.packet.now s c.in-Dropped.leaf (rw c.in-Dropped.is at (e.answer s sound stood))).fullness)
     refl refl refl c.show_drop.ensures.shown
     (λ s sound stood below.

@@ -1,9 +1,9 @@
-use Rattle.sched_run.proofs.Prelude.{ℕ, arith, ◌∙◌, ◌≡◌, refl, sym, subst, ap, add-one, err_from_is_err_and, sink-then, sink-same, IsHeldBelow, heard_without, no_bytes, first_drawing, load_events, load_next, Drawing}
+use Rattle.sched_run.proofs.Prelude.{ℕ, arith, ◌∙◌, ◌≡◌, refl, sym, subst, ap, add-one, err_from_is_err_and, sink-then, sink-same, IsHeldBelow, recording_none, no_bytes, first_drawing, load_events, load_next, Drawing}
 use Rattle.sched_run.proofs.FrameLaws.{continues_then, sink_cause_after}
 use Rattle.sched_run.proofs.LoadLaws.{is_drawn, load_room, load_arrivals, load_arrivals-more, load_goes, load_stops}
 use Rattle.sched_run.proofs.MadeEvents.{makes_none}
 use Rattle.sched_run.proofs.PacketsInTurn.{one_after}
-use Rattle.sched_run.proofs.HeardLaws.{heard-joined}
+use Rattle.sched_run.proofs.RecordingLaws.{recording-joined}
 use Rattle.sched_run.proofs.run.Run.play_drawings.Goals as goal
 
 pub loop-drawn-init : goal.loop-drawn-init
@@ -11,7 +11,7 @@ loop-drawn-init g c =
     let S = g.C.Scheduler in
     let is = c.new-drawing.ensures in
     record {
-      made = makes_none S (heard_without g.W.Recorder) (heard-joined g.W.Recorder g.met.W.Recorder.joined no_bytes) (S.policy c.args.self.now.scheduler) _ _ _ _ 0 0 _ _;
+      made = makes_none S (recording_none g.W.Recorder) (recording-joined g.W.Recorder g.met.W.Recorder.joined no_bytes) (S.policy c.args.self.now.scheduler) _ _ _ _ 0 0 _ _;
       drawing = is;
       number = ap (λ (d : Drawing). d.number) is;
       moment = omega (arith, ap (λ (d : Drawing). d.moment) is);
@@ -26,7 +26,7 @@ play_drawn-requires-clause-stands g c =
     let S = g.C.Scheduler in
     let i = c.loop-drawn.invariant in
     let one = c.requires.stands in
-    let at = one_after S (heard_without g.W.Recorder) (heard-joined g.W.Recorder g.met.W.Recorder.joined no_bytes) (S.policy c.args.self.now.scheduler) c.requires.set.accepted (load_events c.loop-drawn._drawn (first_drawing c.args.seed)) _ _ (omega (arith, i.made.came)) i.made
+    let at = one_after S (recording_none g.W.Recorder) (recording-joined g.W.Recorder g.met.W.Recorder.joined no_bytes) (S.policy c.args.self.now.scheduler) c.requires.set.accepted (load_events c.loop-drawn._drawn (first_drawing c.args.seed)) _ _ (omega (arith, i.made.came)) i.made
     (record { state = one.state; sound = one.sound; stood = one.stood; has = one.has.held }) in
     rw i.kept.policy (record { state = at.state; sound = at.sound; stood = at.stood; has = subst (λ (n : ℕ). IsHeldBelow n at.state.held) (sym i.number) at.has })
 
@@ -42,7 +42,7 @@ play_drawn-requires-clause-draws g c =
 pub play_drawn-requires-clause-room : goal.play_drawn-requires-clause-room
 play_drawn-requires-clause-room g c =
     let S = g.C.Scheduler in
-    let room = load_room S (heard_without g.W.Recorder) (heard-joined g.W.Recorder g.met.W.Recorder.joined no_bytes) (S.policy c.args.self.now.scheduler) c.requires.set.accepted c.loop-drawn._drawn (first_drawing c.args.seed) _ _ (omega (arith, c.loop-drawn-test.true, c.requires.loads.short)) c.requires.fresh c.requires.room.pushes c.requires.room.departures c.loop-drawn.invariant.made c.requires.stands in
+    let room = load_room S (recording_none g.W.Recorder) (recording-joined g.W.Recorder g.met.W.Recorder.joined no_bytes) (S.policy c.args.self.now.scheduler) c.requires.set.accepted c.loop-drawn._drawn (first_drawing c.args.seed) _ _ (omega (arith, c.loop-drawn-test.true, c.requires.loads.short)) c.requires.fresh c.requires.room.pushes c.requires.room.departures c.loop-drawn.invariant.made c.requires.stands in
     record {
       arrival = record { pushes = omega (arith, room.pushes_fit); events = omega (arith, room.events); dropped = room.dropped };
       departures = omega (arith, room.departures_fit);
@@ -54,7 +54,7 @@ returns-in_err-play_drawn-clause-err g c =
     let S = g.C.Scheduler in
     let i = c.loop-drawn.invariant in
     let stop = rw i.kept.policy at c.in_err-play_drawn.ensures.err in
-    rw (p.1) (load_stops S (heard_without g.W.Recorder) (heard-joined g.W.Recorder g.met.W.Recorder.joined no_bytes) (S.policy c.args.self.now.scheduler) c.requires.set.accepted c.loop-drawn._drawn c.args.count (first_drawing c.args.seed) c.loop-drawn.drawing _ _ _ _ _ c.loop-drawn-test.true c.requires.loads.classes (omega (arith, c.requires.loads.short)) refl i.drawing (omega arith) i.made
+    rw (p.1) (load_stops S (recording_none g.W.Recorder) (recording-joined g.W.Recorder g.met.W.Recorder.joined no_bytes) (S.policy c.args.self.now.scheduler) c.requires.set.accepted c.loop-drawn._drawn c.args.count (first_drawing c.args.seed) c.loop-drawn.drawing _ _ _ _ _ c.loop-drawn-test.true c.requires.loads.classes (omega (arith, c.requires.loads.short)) refl i.drawing (omega arith) i.made
     (stop _ i.number))
 
 pub returns-in_err-play_drawn-clause-keeps : goal.returns-in_err-play_drawn-clause-keeps
@@ -80,7 +80,7 @@ loop-drawn-preserved g c =
     let one = is_drawn c.loop-drawn.drawing in
     let next : c.play_drawn.new.drawing ≡ load_next c.loop-drawn.drawing = e.next in
     record {
-      made = load_goes S (heard_without g.W.Recorder) (heard-joined g.W.Recorder g.met.W.Recorder.joined no_bytes) (S.policy c.args.self.now.scheduler) c.requires.set.accepted c.loop-drawn._drawn d c.loop-drawn.drawing _ _ _ _ _ _ _ _ _ _ i.drawing (omega arith) i.made (made _ i.number);
+      made = load_goes S (recording_none g.W.Recorder) (recording-joined g.W.Recorder g.met.W.Recorder.joined no_bytes) (S.policy c.args.self.now.scheduler) c.requires.set.accepted c.loop-drawn._drawn d c.loop-drawn.drawing _ _ _ _ _ _ _ _ _ _ i.drawing (omega arith) i.made (made _ i.number);
       drawing = rw (add-one c.loop-drawn._drawn) (next ∙ ap (λ (x : Drawing). load_next x) i.drawing);
       number = omega (arith, ap (λ (x : Drawing). x.number) next, one.number, i.number, load_arrivals-more c.loop-drawn._drawn d c.loop-drawn.drawing i.drawing);
       moment = omega (arith, ap (λ (x : Drawing). x.moment) next, one.moment, i.moment);

@@ -1,4 +1,4 @@
-use Rattle.sched_run.proofs.Prelude.{◌≡◌, ◌+◌, ◌≤◌, ◌*◌, KeepsSink, sight_of, AreNoMore, Continues, heard_without, first_drawing, load_events, Makes, arrivals_in, stage_of}
+use Rattle.sched_run.proofs.Prelude.{◌≡◌, ◌+◌, ◌≤◌, ◌*◌, KeepsSink, sight_of, AreNoMore, Continues, recording_none, first_drawing, load_events, Makes, arrivals_in, stage_of}
 use Rattle.sched_run.proofs.LoadLaws.{load_after}
 use Rattle.sched_run.proofs.run.Run.play_drawings.Given as goal
 
@@ -8,7 +8,7 @@ invariant-loop-drawn g l =
     let written = g.K.Sink.written in
     let sight = sight_of g.T.Tap.kind_of g.T.Tap.state_of in
     record {
-      made : Makes S (heard_without g.W.Recorder) (S.policy l.fn.self.scheduler) (load_events l._drawn (first_drawing l.seed))
+      made : Makes S (recording_none g.W.Recorder) (S.policy l.fn.self.scheduler) (load_events l._drawn (first_drawing l.seed))
           (stage_of l.fn.self l.fn.under (written l.fn.sink) 0 (sight l.fn.watch))
           (stage_of l.self l.under (written l.sink) (arrivals_in (load_events l._drawn (first_drawing l.seed))) (sight l.watch));
       drawing : l.drawing ≡ load_after l._drawn (first_drawing l.seed);

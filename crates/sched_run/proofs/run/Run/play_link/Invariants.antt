@@ -1,4 +1,4 @@
-use Rattle.sched_run.proofs.Prelude.{◌≡◌, false, ◌-◌, KeepsSink, sight_of, AreNoMore, link_agenda, Continues, KeepsPackets, IsFurther, heard, IsEarly, stage_of}
+use Rattle.sched_run.proofs.Prelude.{◌≡◌, false, ◌-◌, KeepsSink, sight_of, AreNoMore, link_agenda, Continues, KeepsPackets, IsFurther, recording, IsEarly, stage_of}
 use Rattle.sched_run.proofs.AgendaLaws.{HasRun}
 use Rattle.sched_run.proofs.run.Run.play_link.Given as goal
 
@@ -9,7 +9,7 @@ invariant-loop-packets g l =
     let written = g.K.Sink.written in
     let sight = sight_of g.T.Tap.kind_of g.T.Tap.state_of in
     record {
-      run : HasRun S (heard g.W.Recorder (P.captures l.fn.packets l.fn.source)) (S.policy l.fn.self.scheduler) (link_agenda (S.policy l.fn.self.scheduler) l.rate 0) (link_agenda (S.policy l.fn.self.scheduler) l.rate l.link) 0 0
+      run : HasRun S (recording g.W.Recorder (P.captures l.fn.packets l.fn.source)) (S.policy l.fn.self.scheduler) (link_agenda (S.policy l.fn.self.scheduler) l.rate 0) (link_agenda (S.policy l.fn.self.scheduler) l.rate l.link) 0 0
           (P.left l.fn.packets l.fn.source) (P.left l.packets l.source)
           (stage_of l.fn.self l.fn.under (written l.fn.sink) (P.given l.fn.packets) (sight l.fn.watch))
           (stage_of l.self l.under (written l.sink) (P.given l.packets) (sight l.watch));

@@ -1,4 +1,4 @@
-use Rattle.sched_run.proofs.Prelude.{drop, counts_of, KeepsSink, sight_of, AreNoMore, script_agenda, Continues, KeepsPackets, IsFurther, heard, stage_of}
+use Rattle.sched_run.proofs.Prelude.{drop, counts_of, KeepsSink, sight_of, AreNoMore, script_agenda, Continues, KeepsPackets, IsFurther, recording, stage_of}
 use Rattle.sched_run.proofs.AgendaLaws.{HasRun}
 use Rattle.sched_run.proofs.run.Run.play_steps.Given as goal
 
@@ -9,7 +9,7 @@ invariant-loop-step g l =
     let written = g.K.Sink.written in
     let sight = sight_of g.T.Tap.kind_of g.T.Tap.state_of in
     record {
-      run : HasRun S (heard g.W.Recorder (P.captures l.fn.packets l.fn.source)) (S.policy l.fn.self.scheduler) (script_agenda (S.policy l.fn.self.scheduler) l.steps) (script_agenda (S.policy l.fn.self.scheduler) (drop l.step-index l.steps))
+      run : HasRun S (recording g.W.Recorder (P.captures l.fn.packets l.fn.source)) (S.policy l.fn.self.scheduler) (script_agenda (S.policy l.fn.self.scheduler) l.steps) (script_agenda (S.policy l.fn.self.scheduler) (drop l.step-index l.steps))
           (counts_of l.steps) (counts_of (drop l.step-index l.steps)) (P.left l.fn.packets l.fn.source) (P.left l.packets l.source)
           (stage_of l.fn.self l.fn.under (written l.fn.sink) (P.given l.fn.packets) (sight l.fn.watch))
           (stage_of l.self l.under (written l.sink) (P.given l.packets) (sight l.watch));

@@ -1,13 +1,13 @@
-use Rattle.sched_run.proofs.Prelude.{arith, ◌∙◌, ◌≡◌, refl, sym, true, err_from_is_err_and, sink-then, sink-same, any_bytes, heard_anyway}
+use Rattle.sched_run.proofs.Prelude.{arith, ◌∙◌, ◌≡◌, refl, sym, true, err_from_is_err_and, sink-then, sink-same, any_bytes, recording_any}
 use Rattle.sched_run.proofs.FrameLaws.{continues_then}
 use Rattle.sched_run.proofs.LinkLaws.{sends_none, sends_waits, sends_over, sends_stand, sends_asked, sends_goes, sends_first, sends_stops}
 use Rattle.sched_run.proofs.MadeEvents.{held_more}
-use Rattle.sched_run.proofs.HeardLaws.{heard-joined}
+use Rattle.sched_run.proofs.RecordingLaws.{recording-joined}
 use Rattle.sched_run.proofs.run.Run.send_until.Goals as goal
 
 pub loop-sent-init : goal.loop-sent-init
 loop-sent-init g c = record {
-  sends = λ given. sends_none g.C.Scheduler (heard_anyway g.W.Recorder) (heard-joined g.W.Recorder g.met.W.Recorder.joined any_bytes) (g.C.Scheduler.policy c.args.self.now.scheduler) c.requires.set.accepted c.args.rate c.args.until _ _ _ (c.held-held.ensures c.args.under.now);
+  sends = λ given. sends_none g.C.Scheduler (recording_any g.W.Recorder) (recording-joined g.W.Recorder g.met.W.Recorder.joined any_bytes) (g.C.Scheduler.policy c.args.self.now.scheduler) c.requires.set.accepted c.args.rate c.args.until _ _ _ (c.held-held.ensures c.args.under.now);
   came = refl;
   dropped = refl;
   asked = omega arith;
@@ -23,20 +23,20 @@ pub returns-then-not-is_due-clause-ok : goal.returns-then-not-is_due-clause-ok
 returns-then-not-is_due-clause-ok g c =
     let i = c.loop-sent.invariant in
     let due = sym c.is_due.ensures ∙ c.if-not-is_due.true in
-    λ given. sends_waits g.C.Scheduler (heard_anyway g.W.Recorder) (heard-joined g.W.Recorder g.met.W.Recorder.joined any_bytes) (g.C.Scheduler.policy c.args.self.now.scheduler) c.requires.set.accepted c.args.rate c.args.until _ _ _ (c.held-held.ensures c.args.under.now) _ _ _ refl i.came (i.sends given) due
+    λ given. sends_waits g.C.Scheduler (recording_any g.W.Recorder) (recording-joined g.W.Recorder g.met.W.Recorder.joined any_bytes) (g.C.Scheduler.policy c.args.self.now.scheduler) c.requires.set.accepted c.args.rate c.args.until _ _ _ (c.held-held.ensures c.args.under.now) _ _ _ refl i.came (i.sends given) due
 
 pub depart_next-requires-clause-stands : goal.depart_next-requires-clause-stands
 depart_next-requires-clause-stands g c =
     let i = c.loop-sent.invariant in
     let one = c.requires.stands in
-    rw i.kept.policy (sends_stand g.C.Scheduler (heard_anyway g.W.Recorder) (heard-joined g.W.Recorder g.met.W.Recorder.joined any_bytes) (g.C.Scheduler.policy c.args.self.now.scheduler) c.requires.set.accepted c.args.rate c.args.until _ _ _ (c.held-held.ensures c.args.under.now) _ _ _ refl i.came (i.sends one.has.number)
+    rw i.kept.policy (sends_stand g.C.Scheduler (recording_any g.W.Recorder) (recording-joined g.W.Recorder g.met.W.Recorder.joined any_bytes) (g.C.Scheduler.policy c.args.self.now.scheduler) c.requires.set.accepted c.args.rate c.args.until _ _ _ (c.held-held.ensures c.args.under.now) _ _ _ refl i.came (i.sends one.has.number)
     (record { state = one.state; sound = one.sound; stood = one.stood; has = held_more _ _ one.has.below }))
 
 pub depart_next-requires-clause-room : goal.depart_next-requires-clause-room
 depart_next-requires-clause-room g c =
     let i = c.loop-sent.invariant in
     let one = c.requires.stands in
-    let asked = sends_asked g.C.Scheduler (heard_anyway g.W.Recorder) (heard-joined g.W.Recorder g.met.W.Recorder.joined any_bytes) (g.C.Scheduler.policy c.args.self.now.scheduler) c.requires.set.accepted c.args.rate c.args.until _ _ _ (c.held-held.ensures c.args.under.now) _ _ _ refl i.came (i.sends one.has.number)
+    let asked = sends_asked g.C.Scheduler (recording_any g.W.Recorder) (recording-joined g.W.Recorder g.met.W.Recorder.joined any_bytes) (g.C.Scheduler.policy c.args.self.now.scheduler) c.requires.set.accepted c.args.rate c.args.until _ _ _ (c.held-held.ensures c.args.under.now) _ _ _ refl i.came (i.sends one.has.number)
     (record { state = one.state; sound = one.sound; stood = one.stood; has = held_more _ _ one.has.below }) in
     record {
       departures = omega (arith, asked, i.asked, c.loop-sent-test.true, c.held-held.ensures c.args.under.now one.state one.sound one.stood, one.has.few, c.requires.paced.counts.departures_fit);
@@ -55,7 +55,7 @@ returns-in_err-departed-clause-err g c =
     let i = c.loop-sent.invariant in
     let due : true ≡ _ = sym c.if-not-is_due.false ∙ c.is_due.ensures in
     let stop = rw (i.kept.policy, c.free.ensures) at c.in_err-departed.ensures.err in
-    rw (p.1) (λ given. sends_stops g.C.Scheduler (heard_anyway g.W.Recorder) (heard-joined g.W.Recorder g.met.W.Recorder.joined any_bytes) (g.C.Scheduler.policy c.args.self.now.scheduler) c.requires.set.accepted c.args.rate c.args.until _ _ _ (c.held-held.ensures c.args.under.now) _ _ _ refl i.came (i.sends given)
+    rw (p.1) (λ given. sends_stops g.C.Scheduler (recording_any g.W.Recorder) (recording-joined g.W.Recorder g.met.W.Recorder.joined any_bytes) (g.C.Scheduler.policy c.args.self.now.scheduler) c.requires.set.accepted c.args.rate c.args.until _ _ _ (c.held-held.ensures c.args.under.now) _ _ _ refl i.came (i.sends given)
     c.loop-sent-test.true (sym due) g.W.Recorder.over _ _ _ i.going (stop given))
 
 pub loop-sent-preserved : goal.loop-sent-preserved
@@ -66,7 +66,7 @@ loop-sent-preserved g c =
     let made = rw (i.kept.policy, c.free.ensures) at e.ok in
     let value = rw i.kept.policy at e.value in
     record {
-      sends = λ given. sends_goes g.C.Scheduler (heard_anyway g.W.Recorder) (heard-joined g.W.Recorder g.met.W.Recorder.joined any_bytes) (g.C.Scheduler.policy c.args.self.now.scheduler) c.requires.set.accepted c.args.rate c.args.until _ _ _ (c.held-held.ensures c.args.under.now) _ _ _ refl i.came (i.sends given)
+      sends = λ given. sends_goes g.C.Scheduler (recording_any g.W.Recorder) (recording-joined g.W.Recorder g.met.W.Recorder.joined any_bytes) (g.C.Scheduler.policy c.args.self.now.scheduler) c.requires.set.accepted c.args.rate c.args.until _ _ _ (c.held-held.ensures c.args.under.now) _ _ _ refl i.came (i.sends given)
           c.loop-sent-test.true (sym due) _ _ _ value c.take_time.ensures.time (made given);
       came = e.counts.came ∙ i.came;
       dropped = e.counts.dropped ∙ i.dropped;
@@ -85,7 +85,7 @@ returns-then-over-clause-ok g c =
     let e = c.in_ok-departed.ensures in
     let due : true ≡ _ = sym c.if-not-is_due.false ∙ c.is_due.ensures in
     let made = rw (i.kept.policy, c.free.ensures) at e.ok in
-    λ given. sends_first g.C.Scheduler (heard_anyway g.W.Recorder) (heard-joined g.W.Recorder g.met.W.Recorder.joined any_bytes) (g.C.Scheduler.policy c.args.self.now.scheduler) c.requires.set.accepted c.args.rate c.args.until _ _ _ (c.held-held.ensures c.args.under.now) _ _ _ refl i.came (i.sends given)
+    λ given. sends_first g.C.Scheduler (recording_any g.W.Recorder) (recording-joined g.W.Recorder g.met.W.Recorder.joined any_bytes) (g.C.Scheduler.policy c.args.self.now.scheduler) c.requires.set.accepted c.args.rate c.args.until _ _ _ (c.held-held.ensures c.args.under.now) _ _ _ refl i.came (i.sends given)
     c.loop-sent-test.true (sym due) g.W.Recorder.over _ i.going (made given) (sym c.over.ensures ∙ c.if-over.true)
 
 pub returns-then-over-clause-paces : goal.returns-then-over-clause-paces
@@ -103,7 +103,7 @@ returns-then-over-clause-counts g c =
 pub returns-clause-ok : goal.returns-clause-ok
 returns-clause-ok g c =
     let i = c.loop-sent.invariant in
-    λ given. sends_over g.C.Scheduler (heard_anyway g.W.Recorder) (heard-joined g.W.Recorder g.met.W.Recorder.joined any_bytes) (g.C.Scheduler.policy c.args.self.now.scheduler) c.requires.set.accepted c.args.rate c.args.until _ _ _ (c.held-held.ensures c.args.under.now) _ _ _ refl i.came (i.sends given) (omega arith)
+    λ given. sends_over g.C.Scheduler (recording_any g.W.Recorder) (recording-joined g.W.Recorder g.met.W.Recorder.joined any_bytes) (g.C.Scheduler.policy c.args.self.now.scheduler) c.requires.set.accepted c.args.rate c.args.until _ _ _ (c.held-held.ensures c.args.under.now) _ _ _ refl i.came (i.sends given) (omega arith)
 
 pub returns-clause-counts : goal.returns-clause-counts
 returns-clause-counts g c =

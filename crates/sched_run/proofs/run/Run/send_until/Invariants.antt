@@ -1,4 +1,4 @@
-use Rattle.sched_run.proofs.Prelude.{ℕ, ◌≡◌, ◌+◌, false, KeepsSink, sight_of, AreNoMore, Continues, heard_anyway, IsEarly, stage_of}
+use Rattle.sched_run.proofs.Prelude.{ℕ, ◌≡◌, ◌+◌, false, KeepsSink, sight_of, AreNoMore, Continues, recording_any, IsEarly, stage_of}
 use Rattle.sched_run.proofs.LinkLaws.{SendsPart}
 use Rattle.sched_run.proofs.run.Run.send_until.Given as goal
 
@@ -8,7 +8,7 @@ invariant-loop-sent g l =
     let written = g.K.Sink.written in
     let sight = sight_of g.T.Tap.kind_of g.T.Tap.state_of in
     record {
-      sends : (given : ℕ) → SendsPart S (heard_anyway g.W.Recorder) (S.policy l.fn.self.scheduler) l.rate l.until l.held l._sent l.fn.link l.link
+      sends : (given : ℕ) → SendsPart S (recording_any g.W.Recorder) (S.policy l.fn.self.scheduler) l.rate l.until l.held l._sent l.fn.link l.link
           (stage_of l.fn.self l.fn.under (written l.fn.sink) given (sight l.fn.watch)) (stage_of l.self l.under (written l.sink) given (sight l.watch));
       came : l.self.tally.came ≡ l.fn.self.tally.came;
       dropped : l.self.tally.dropped ≡ l.fn.self.tally.dropped;
