@@ -9,7 +9,7 @@ pub mod ChildImages
 pub mod MapSteps
 pub mod LiftSteps
 pub mod DepthSteps
-pub mod LaneLifts
+pub mod PathLifts
 pub mod PickedChildren
 pub mod ImageOrders
 pub mod MapShapes

@@ -25,5 +25,5 @@ pub use Rattle.tree_defs.proofs.Shapes.{topology_of-same, LeadsToLeaf-topology, 
 pub use Rattle.tree_defs.specs.Topology.{IsWithin, IsBranched, Topology, complete, IsPrefixOf, after}
 pub use Rattle.tree_defs.specs.Tree.{trees_of, Address, Tree, root_of, nodes, inner, leaf, Trees, more, LeadsToLeaf, nodes_below, none, LeadsBelow, depth, SameShape, depth_below, subtree_in, SameShapes, subtree}
 pub use Rattle.embed_core.specs.ImageOrder.{AreApart, IsOnSide, is_behind, IsImageOrder, child_image, EachChild, GoesBeside}
-pub use Rattle.embed_core.specs.Lanes.{image_depths, IsLaneTo, IsLeafLane, image_depths_below}
+pub use Rattle.embed_core.specs.LiftedPaths.{image_depths, IsLiftedPathTo, IsLeafPath, image_depths_below}
 pub use Rattle.embed_core.specs.Range.{levels_of}

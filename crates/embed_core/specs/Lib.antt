@@ -3,4 +3,4 @@ pub mod Blocks
 pub mod ImageOrder
 pub mod Shrinking
 pub mod Picks
-pub mod Lanes
+pub mod LiftedPaths

@@ -5,7 +5,7 @@ ghost use Rattle.tree_defs.specs.Tree.{LeadsToLeaf, depth as levels};
 ghost use Rattle.embed_defs.specs.Lift.{picked_ranks};
 ghost use Rattle.embed_defs.specs.GoodMaps.{IsGoodMap};
 ghost use Rattle.embed_core.specs.Picks.{IsLeafImage, LeadsToImage};
-ghost use Rattle.embed_core.specs.Lanes.{IsLaneTo, AreLeafLanes};
+ghost use Rattle.embed_core.specs.LiftedPaths.{IsLiftedPathTo, AreLeafPaths};
 
 use crate::map::{Map, lift, pick};
 use crate::way::Way;
@@ -34,7 +34,7 @@ impl LiftedPath {
     ) -> Result<LiftedPath, AllocError>
         requires leaf { LeadsToLeaf map.now address.now }
         requires good { IsGoodMap height map.now }
-        ensures lane { IfOk result (IsLaneTo map.now address.now) }
+        ensures lifted { IfOk result (IsLiftedPathTo map.now address.now) }
     {
         let mut image = vec![in alloc; 0; height]?;
         let mut steps = vec![in alloc; 0; height + 1]?;
@@ -149,7 +149,7 @@ impl LeafTable {
         taken: &mut Taken,
     )
         requires good { IsGoodMap (length digits.now) map.now }
-        requires paths { AreLeafLanes map.now paths.now }
+        requires paths { AreLeafPaths map.now paths.now }
         requires leaf { IsLeafImage map.now digits.now }
         requires ranks { length ranks.now ≡ length digits.now + 1 }
         requires room { levels map.now ≤ taken.old.room }

@@ -14,7 +14,7 @@ ghost use Rattle.embed_defs.specs.Lift.{lift_ranks, picked_ranks};
 ghost use Rattle.embed_defs.specs.GoodMaps.{IsGoodMap, IsDeep, IsNested};
 ghost use Rattle.embed_core.specs.Range.{levels_of, FitsInLevels};
 ghost use Rattle.embed_core.specs.Picks.{IsLeafImage, PicksOnto};
-ghost use Rattle.embed_core.specs.Lanes.{image_depths};
+ghost use Rattle.embed_core.specs.LiftedPaths.{image_depths};
 
 use crate::block::block_start;
 use crate::needs::Needs;

@@ -1,5 +1,5 @@
 -- The parts built from accepted statements are the parts of their policy.
-use Rattle.policy_core.proofs.Prelude.{List, ◌≡◌, ℕ, ap, sym, subst, [], ◌∙◌, arith, length, ◌<◌, ◌∷◌, refl, get_or, suc, map, Option, ◌≤◌, unwrap_or, position, get_or_default, length-map, AllByRecursion, AllZip, bytes_eq, IsAccepted, AreBuiltIn, Node, place-within, found, AreAccepted, root, most_classes, version_of, AreRising, graph_of, nodes_in, known_programs, Name, declared, node_name, class_name, place, programs, IsTreeIn, Declared, classes_in, IsResolved, AreClassesOf, Entry, Test, Program, IsShaped, nodes-topology, depth-topology, topology_of, Topology, Tree, Address, root_of, nodes, depth, most_nodes, length-rows, rows, IsTreeBelow, Row, row_at, row, nodes_of, AreHomes, IsHome, classes_at, node_numbered, nodes_at, Made, made, made_of, nodes_told, address_at, nodes_from, HasCatchAll, no_station, node_of, resolved, station_at, tree_of, HaveStations, AreValid, IsNodeTree, PolicyNode}
+use Rattle.policy_core.proofs.Prelude.{List, ◌≡◌, ℕ, ap, sym, subst, [], ◌∙◌, arith, length, ◌<◌, ◌∷◌, refl, get_or, suc, map, Option, ◌≤◌, unwrap_or, position, get_or_default, length-map, AllByRecursion, AllZip, bytes_eq, IsAccepted, AreBuiltIn, Node, place-within, found, AreAccepted, root, most_classes, version_of, AreRising, graph_of, nodes_in, known_programs, Name, declared, node_name, class_name, place, programs, IsTreeIn, Declared, classes_in, IsResolved, AreClassesOf, Entry, Test, Program, IsShaped, nodes-topology, depth-topology, topology_of, Topology, Tree, Address, root_of, nodes, depth, most_nodes, length-rows, rows, IsTreeBelow, Row, row_at, row, nodes_of, AreHomes, IsHome, classes_at, node_numbered, nodes_at, Made, made, made_of, nodes_told, address_at, nodes_from, HasCatchAll, no_policy_node, node_of, resolved, policy_node_at, tree_of, HavePolicyNodes, AreValid, IsNodeTree, PolicyNode}
 use Rattle.std.proofs.lemmas.List.{get_or-map}
 use Rattle.policy_defs.specs.Policy.{Class as Aimed}
 use Rattle.tree_graph.specs.Descent.{times}
@@ -32,19 +32,19 @@ zip-length es rows (n ∷ names) (m ∷ ms) h = ap suc (zip-length es rows names
 pub homes-count : (es : List Entry) (rows : List Row) (ms : List ℕ) → AreHomes es rows ms → length ms ≡ length (classes_in es)
 homes-count es rows ms homes = zip-length es rows (declared class_name es) ms homes ∙ ap length (sym (names-classes es)) ∙ length-map (classes_in es) (λ (d : Declared). d.name)
 
--- the tree of the nodes, their stations over all programs, a leaf for each class, and the classes
+-- the tree of the nodes, their records over all programs, a leaf for each class, and the classes
 pub record AreParts (es : List Entry) (tree : Numbered) (ss : List PolicyNode) (ps : List Program) (ns : List ℕ) (cs : List Class) : Type 0 where
   pub below : IsTreeBelow (graph_of es) (place (declared node_name es) root) tree
-  pub stations : nodes_told ps ss ≡ nodes_in es
+  pub policy_nodes : nodes_told ps ss ≡ nodes_in es
   pub homes : AreHomes es tree.rows ns
   pub classes : map made cs ≡ made_of (classes_in es) ns
 
 -- the results of the calls, put together
 pub parts-made : (es : List Entry) (g : List (List ℕ)) (r : ℕ) (tree : Numbered) (ss : List PolicyNode) (ps : List Program) (ns leaves : List ℕ) (cs : List Class) → g ≡ graph_of es → r ≡ place (declared node_name es) root → IsTreeBelow g r tree
     → ps ≡ known_programs es → nodes_told (known_programs es) ss ≡ nodes_in es → ns ≡ leaves → AreHomes es tree.rows leaves → map made cs ≡ made_of (classes_in es) ns → AreParts es tree ss ps ns cs
-parts-made es g r tree ss ps ns leaves cs graph at below known stations same homes classes = record {
+parts-made es g r tree ss ps ns leaves cs graph at below known policy_nodes same homes classes = record {
   below = subst (λ (h : List (List ℕ)). IsTreeBelow h (place (declared node_name es) root) tree) graph (subst (λ (n : ℕ). IsTreeBelow g n tree) at below);
-  stations = subst (λ (all : List Program). nodes_told all ss ≡ nodes_in es) (sym known) stations;
+  policy_nodes = subst (λ (all : List Program). nodes_told all ss ≡ nodes_in es) (sym known) policy_nodes;
   homes = subst (λ (ms : List ℕ). AreHomes es tree.rows ms) (sym same) homes;
   classes = classes;
 }
@@ -53,8 +53,8 @@ module _ (es : List Entry) (accepted : AreAccepted es) (tree : Numbered) (ss : L
   abbrev below : IsTreeBelow (graph_of es) (place (declared node_name es) root) tree
   below = parts.below
 
-  stations : nodes_told ps ss ≡ nodes_in es
-  stations = parts.stations
+  policy_nodes : nodes_told ps ss ≡ nodes_in es
+  policy_nodes = parts.policy_nodes
 
   homes : AreHomes es tree.rows ns
   homes = parts.homes
@@ -62,20 +62,20 @@ module _ (es : List Entry) (accepted : AreAccepted es) (tree : Numbered) (ss : L
   classes : map made cs ≡ made_of (classes_in es) ns
   classes = parts.classes
 
-  at-place : (i : ℕ) → i < length (nodes_in es) → node_of ps (station_at ss i) ≡ node_numbered es i
+  at-place : (i : ℕ) → i < length (nodes_in es) → node_of ps (policy_node_at ss i) ≡ node_numbered es i
   at-place i within =
-      let there : i < length ss = omega (arith, within, ap length stations, length-map ss (node_of ps)) in
-      sym (get_or-map (node_of ps) ss i no_station (node_numbered es i) there)
-      ∙ ap (λ (all : List Node). get_or all i (node_numbered es i)) stations
+      let there : i < length ss = omega (arith, within, ap length policy_nodes, length-map ss (node_of ps)) in
+      sym (get_or-map (node_of ps) ss i no_policy_node (node_numbered es i) there)
+      ∙ ap (λ (all : List Node). get_or all i (node_numbered es i)) policy_nodes
       ∙ get_or_default (nodes_in es) i _ _ within
 
   -- the tree
   pub tree-made : tree_of tree ss ps ≡ nodes_at es below.tree
   tree-made =
-      ap (λ (all : List Row). nodes_from (λ n. node_of ps (station_at ss (row_at all n).node)) 0 tree.topology) below.numbered.rows_are
-      ∙ ap (λ (u : Topology). nodes_from (λ n. node_of ps (station_at ss (row_at (rows 0 [] below.tree) n).node)) 0 u) below.numbered.topology_is
-      ∙ rows-told (λ i. node_of ps (station_at ss i)) below.tree
-      ∙ nodes-agree es below.tree (λ i. node_of ps (station_at ss i)) accepted below.is_tree below.root_is at-place
+      ap (λ (all : List Row). nodes_from (λ n. node_of ps (policy_node_at ss (row_at all n).node)) 0 tree.topology) below.numbered.rows_are
+      ∙ ap (λ (u : Topology). nodes_from (λ n. node_of ps (policy_node_at ss (row_at (rows 0 [] below.tree) n).node)) 0 u) below.numbered.topology_is
+      ∙ rows-told (λ i. node_of ps (policy_node_at ss i)) below.tree
+      ∙ nodes-agree es below.tree (λ i. node_of ps (policy_node_at ss i)) accepted below.is_tree below.root_is at-place
 
   homes-below : AreHomes es (rows 0 [] below.tree) ns
   homes-below = subst (λ (all : List Row). AreHomes es all ns) below.numbered.rows_are homes
@@ -172,10 +172,10 @@ module _ (es : List Entry) (accepted : AreAccepted es) (tree : Numbered) (ss : L
   each-of P [] d h = tt
   each-of P (x ∷ xs) d h = (h 0 (omega arith), each-of P xs d (λ k l. h (suc k) (omega arith)))
 
-  pub stations-there : length tree.rows ≡ length (graph_of es) → ((a : ℕ) → a < length tree.rows → times a (nodes_of tree.rows) ≡ 1) → HaveStations tree ss
-  stations-there count once =
+  pub policy_nodes-there : length tree.rows ≡ length (graph_of es) → ((a : ℕ) → a < length tree.rows → times a (nodes_of tree.rows) ≡ 1) → HavePolicyNodes tree ss
+  policy_nodes-there count once =
       each-of (λ (r : Row). r.node < length ss) tree.rows (row 0 [] [])
-      (λ k l. (let within : (row_at tree.rows k).node < length tree.rows = node-within tree.rows k once l in omega (arith, within, count, length-nodes es, ap length stations, length-map ss (node_of ps))))
+      (λ k l. (let within : (row_at tree.rows k).node < length tree.rows = node-within tree.rows k once l in omega (arith, within, count, length-nodes es, ap length policy_nodes, length-map ss (node_of ps))))
 
   topology-made : topology_of (tree_of tree ss ps) ≡ tree.topology
   topology-made = topology_of-nodes _ 0 tree.topology

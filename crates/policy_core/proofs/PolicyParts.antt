@@ -1,5 +1,5 @@
 -- Consequences of the parts of a policy for its value.
-use Rattle.policy_core.proofs.Prelude.{List, ◌≡◌, ℕ, ap, sym, subst, [], ◌∙◌, arith, length, ◌<◌, ◌∷◌, get_or, suc, Some, zero, ◌++◌, Option, ◌≤◌, Bool, IsTrue, ◌↔◌, get_or_default, AllByRecursion, IsSomeAnd, IsAccepted, number_at, Node, node_at, all-weaker, Resolved, Program, most_name, nodes-topology, depth-topology, LeadsToLeaf-topology, topology_of, Topology, Tree, Address, nodes, depth, IsAddressOf, most_nodes, LeadsToLeaf, length-rows, Row, row_at, row, address_at, no_program, no_station, node_of, resolved, station_at, tree_of, AreNumbered, IsWhole, told, PolicyNode}
+use Rattle.policy_core.proofs.Prelude.{List, ◌≡◌, ℕ, ap, sym, subst, [], ◌∙◌, arith, length, ◌<◌, ◌∷◌, get_or, suc, Some, zero, ◌++◌, Option, ◌≤◌, Bool, IsTrue, ◌↔◌, get_or_default, AllByRecursion, IsSomeAnd, IsAccepted, number_at, Node, node_at, all-weaker, Resolved, Program, most_name, nodes-topology, depth-topology, LeadsToLeaf-topology, topology_of, Topology, Tree, Address, nodes, depth, IsAddressOf, most_nodes, LeadsToLeaf, length-rows, Row, row_at, row, address_at, no_program, no_policy_node, node_of, resolved, policy_node_at, tree_of, AreNumbered, IsWhole, told, PolicyNode}
 use Rattle.tree_graph.specs.Preorder.{Numbered}
 use Rattle.policy_core.specs.declared.parts.Class.{Class}
 use Rattle.policy_core.proofs.NumberedAddresses.{IsAddress, address-undone, address_at-topology, address-down, address-up, topology_of-nodes, node_numbered}
@@ -85,50 +85,50 @@ module _ (v : ℕ) (tree : Numbered) (ss : List PolicyNode) (ps : List Program) 
       LeadsToLeaf-topology r.policy.tree (address_at r.policy.tree k) ∙ ap (λ (u : Topology). LeadsToLeaf u (address_at r.policy.tree k)) (sym topology-is) ∙ ap (λ (a : Address). LeadsToLeaf tree.topology a) (sym (address-is k l)) in
       subst (λ (P : Type 0). IsTrue b ↔ P) (sym same) is
 
-  pub station-there : (k : ℕ) → k < nodes r.policy.tree → (row_at tree.rows k).node < length ss
-  station-there k l = all-at (λ x. x.node < length ss) tree.rows k (row 0 [] []) w.stations (within k l)
+  pub policy_node-there : (k : ℕ) → k < nodes r.policy.tree → (row_at tree.rows k).node < length ss
+  policy_node-there k l = all-at (λ x. x.node < length ss) tree.rows k (row 0 [] []) w.policy_nodes (within k l)
 
-  pub node-is : (k : ℕ) → k < nodes r.policy.tree → node_at r.policy.tree (address_at r.policy.tree k) ≡ Some (node_of ps (station_at ss (row_at tree.rows k).node))
+  pub node-is : (k : ℕ) → k < nodes r.policy.tree → node_at r.policy.tree (address_at r.policy.tree k) ≡ Some (node_of ps (policy_node_at ss (row_at tree.rows k).node))
   node-is k l =
-      subst (λ (t : Tree Node). node_at t (address_at t k) ≡ Some (node_of ps (station_at ss (row_at tree.rows k).node))) tree-is
-      (node_numbered (λ n. node_of ps (station_at ss (row_at tree.rows n).node)) tree.topology k (omega (arith, within k l, rows-count tree w.numbered)))
+      subst (λ (t : Tree Node). node_at t (address_at t k) ≡ Some (node_of ps (policy_node_at ss (row_at tree.rows k).node))) tree-is
+      (node_numbered (λ n. node_of ps (policy_node_at ss (row_at tree.rows n).node)) tree.topology k (omega (arith, within k l, rows-count tree w.numbered)))
 
-  pub name-short : (k : ℕ) → k < nodes r.policy.tree → length (station_at ss (row_at tree.rows k).node).name ≤ most_name
-  name-short k l = (accepted-is.nodes (address_at r.policy.tree k) (node_of ps (station_at ss (row_at tree.rows k).node)) (node-is k l)).name
+  pub name-short : (k : ℕ) → k < nodes r.policy.tree → length (policy_node_at ss (row_at tree.rows k).node).name ≤ most_name
+  name-short k l = (accepted-is.nodes (address_at r.policy.tree k) (node_of ps (policy_node_at ss (row_at tree.rows k).node)) (node-is k l)).name
 
-  pub program-there : (k : ℕ) → k < nodes r.policy.tree → (station_at ss (row_at tree.rows k).node).program < length ps
-  program-there k l = all-at (λ s. s.program < length ps) ss (row_at tree.rows k).node no_station w.programs (station-there k l)
+  pub program-there : (k : ℕ) → k < nodes r.policy.tree → (policy_node_at ss (row_at tree.rows k).node).program < length ps
+  program-there k l = all-at (λ s. s.program < length ps) ss (row_at tree.rows k).node no_policy_node w.programs (policy_node-there k l)
 
   pub leaves-there : AllByRecursion (λ c. c.leaf < nodes r.policy.tree) cs
   leaves-there = all-weaker (λ c. c.leaf < length tree.rows) (λ c. c.leaf < nodes r.policy.tree) cs (λ c l. omega (arith, l, count-is)) w.leaves
 
   -- ---- in the terms of the code
-  pub own-station : (k : ℕ) (s : PolicyNode) (all : List PolicyNode) → all ≡ ss → s ≡ station_at all (row_at tree.rows k).node → s ≡ station_at ss (row_at tree.rows k).node
-  own-station k s all same is = is ∙ ap (λ (l : List PolicyNode). station_at l (row_at tree.rows k).node) same
+  pub own-policy_node : (k : ℕ) (s : PolicyNode) (all : List PolicyNode) → all ≡ ss → s ≡ policy_node_at all (row_at tree.rows k).node → s ≡ policy_node_at ss (row_at tree.rows k).node
+  own-policy_node k s all same is = is ∙ ap (λ (l : List PolicyNode). policy_node_at l (row_at tree.rows k).node) same
 
-  pub program-within : (k : ℕ) (s : PolicyNode) (all : List Program) → k < nodes r.policy.tree → s ≡ station_at ss (row_at tree.rows k).node → all ≡ ps → s.program < length all
+  pub program-within : (k : ℕ) (s : PolicyNode) (all : List Program) → k < nodes r.policy.tree → s ≡ policy_node_at ss (row_at tree.rows k).node → all ≡ ps → s.program < length all
   program-within k s all l own same = omega (arith, program-there k l, ap (λ (x : PolicyNode). x.program) own, ap length same)
 
-  pub program-is : (k : ℕ) (s : PolicyNode) (p : Program) (all : List Program) → k < nodes r.policy.tree → s ≡ station_at ss (row_at tree.rows k).node → all ≡ ps → p ≡ get_or all s.program p
+  pub program-is : (k : ℕ) (s : PolicyNode) (p : Program) (all : List Program) → k < nodes r.policy.tree → s ≡ policy_node_at ss (row_at tree.rows k).node → all ≡ ps → p ≡ get_or all s.program p
       → IsSomeAnd (node_at r.policy.tree (address_at r.policy.tree k)) (λ n. p ≡ n.program)
   program-is k s p all l own same read =
       some-and _ _ (λ n. p ≡ n.program) (node-is k l)
       (read ∙ get_or_default all s.program p no_program (program-within k s all l own same) ∙ ap (λ (x : List Program). get_or x s.program no_program) same ∙ ap (λ (x : PolicyNode). get_or ps x.program no_program) own)
 
-  pub marks-are : (k : ℕ) (s : PolicyNode) → k < nodes r.policy.tree → s ≡ station_at ss (row_at tree.rows k).node → IsSomeAnd (node_at r.policy.tree (address_at r.policy.tree k)) (λ n. told s.marks ≡ n.marks)
+  pub marks-are : (k : ℕ) (s : PolicyNode) → k < nodes r.policy.tree → s ≡ policy_node_at ss (row_at tree.rows k).node → IsSomeAnd (node_at r.policy.tree (address_at r.policy.tree k)) (λ n. told s.marks ≡ n.marks)
   marks-are k s l own = some-and _ _ (λ n. told s.marks ≡ n.marks) (node-is k l) (ap (λ (x : PolicyNode). told x.marks) own)
 
-  pub limits-are : (k : ℕ) (s : PolicyNode) → k < nodes r.policy.tree → s ≡ station_at ss (row_at tree.rows k).node → IsSomeAnd (node_at r.policy.tree (address_at r.policy.tree k)) (λ n. s.limits ≡ n.limits)
+  pub limits-are : (k : ℕ) (s : PolicyNode) → k < nodes r.policy.tree → s ≡ policy_node_at ss (row_at tree.rows k).node → IsSomeAnd (node_at r.policy.tree (address_at r.policy.tree k)) (λ n. s.limits ≡ n.limits)
   limits-are k s l own = some-and _ _ (λ n. s.limits ≡ n.limits) (node-is k l) (ap (λ (x : PolicyNode). x.limits) own)
 
-  pub group-is : (k : ℕ) (s : PolicyNode) → k < nodes r.policy.tree → s ≡ station_at ss (row_at tree.rows k).node → IsSomeAnd (node_at r.policy.tree (address_at r.policy.tree k)) (λ n. s.group ≡ n.group)
+  pub group-is : (k : ℕ) (s : PolicyNode) → k < nodes r.policy.tree → s ≡ policy_node_at ss (row_at tree.rows k).node → IsSomeAnd (node_at r.policy.tree (address_at r.policy.tree k)) (λ n. s.group ≡ n.group)
   group-is k s l own = some-and _ _ (λ n. s.group ≡ n.group) (node-is k l) (ap (λ (x : PolicyNode). x.group) own)
 
-  pub using-is : (k : ℕ) (s : PolicyNode) (used : List ℕ) → k < nodes r.policy.tree → s ≡ station_at ss (row_at tree.rows k).node → used ≡ s.using → IsSomeAnd (node_at r.policy.tree (address_at r.policy.tree k)) (λ n. used ≡ n.using)
+  pub using-is : (k : ℕ) (s : PolicyNode) (used : List ℕ) → k < nodes r.policy.tree → s ≡ policy_node_at ss (row_at tree.rows k).node → used ≡ s.using → IsSomeAnd (node_at r.policy.tree (address_at r.policy.tree k)) (λ n. used ≡ n.using)
   using-is k s used l own is = some-and _ _ (λ n. used ≡ n.using) (node-is k l) (is ∙ ap (λ (x : PolicyNode). x.using) own)
 
-  pub name-is : (k : ℕ) (s : PolicyNode) (name : List ℕ) → k < nodes r.policy.tree → s ≡ station_at ss (row_at tree.rows k).node → name ≡ s.name → IsSomeAnd (node_at r.policy.tree (address_at r.policy.tree k)) (λ n. name ≡ n.name)
+  pub name-is : (k : ℕ) (s : PolicyNode) (name : List ℕ) → k < nodes r.policy.tree → s ≡ policy_node_at ss (row_at tree.rows k).node → name ≡ s.name → IsSomeAnd (node_at r.policy.tree (address_at r.policy.tree k)) (λ n. name ≡ n.name)
   name-is k s name l own is = some-and _ _ (λ n. name ≡ n.name) (node-is k l) (is ∙ ap (λ (x : PolicyNode). x.name) own)
 
-  pub name-length : (k : ℕ) (s : PolicyNode) (name : List ℕ) → k < nodes r.policy.tree → s ≡ station_at ss (row_at tree.rows k).node → name ≡ s.name → length name ≤ most_name
+  pub name-length : (k : ℕ) (s : PolicyNode) (name : List ℕ) → k < nodes r.policy.tree → s ≡ policy_node_at ss (row_at tree.rows k).node → name ≡ s.name → length name ≤ most_name
   name-length k s name l own is = omega (arith, name-short k l, ap length is, ap (λ (x : PolicyNode). length x.name) own)

@@ -63,6 +63,6 @@ pub use Rattle.policy_core.specs.Made.{IsPlaceOf, Made, made, made_of, nodes_tol
 pub use Rattle.policy_core.specs.Numbering.{address_at, nodes_from, address_below, nodes_from_below, sibling_of}
 pub use Rattle.policy_core.specs.Numbers.{ArePlaces}
 pub use Rattle.policy_core.specs.Office.{office_lines, backup_network, exactly, of_prio, of_weight, office_statements, tcp, udp, OfficeIsAccepted, OfficesAreAlike, office_classes, office_leaves, office_nodes}
-pub use Rattle.policy_core.specs.Parts.{HasCatchAll, no_program, no_station, node_of, resolved, station_at, tree_of, AreNumbered, HavePrograms, HaveStations, IsWhole, told}
+pub use Rattle.policy_core.specs.Parts.{HasCatchAll, no_program, no_policy_node, node_of, resolved, policy_node_at, tree_of, AreNumbered, HavePrograms, HavePolicyNodes, IsWhole, told}
 pub use Rattle.policy_core.specs.PlaceLaws.{AreValid, IsNodeTree}
 pub use Rattle.policy_core.specs.declared.parts.PolicyNode.{PolicyNode}

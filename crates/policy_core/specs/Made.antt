@@ -1,4 +1,4 @@
--- The results built from statements: the stations of nodes and leaves, and the classes.
+-- The results built from statements: the records of nodes and leaves, and the classes.
 use Rattle.std.specs.Prelude.{◌≡◌, ◌<◌, ℕ, List, [], ◌∷◌, ◌++◌, map, length, slice_index_or, unwrap_or}
 use Rattle.std.specs.List.{cons_option}
 use Rattle.rank_defs.specs.Builtins.{fifo}
@@ -17,21 +17,21 @@ use Rattle.policy_core.specs.declared.parts.PolicyNode.{PolicyNode}
 use Rattle.policy_core.specs.declared.parts.Class.{Class}
 use Rattle.policy_core.specs.Parts.{told, node_of, no_program, HavePrograms}
 
--- the nodes of stations
+-- the nodes of these records
 abbrev pub nodes_told : List Program → List PolicyNode → List Node
-nodes_told programs stations = map (node_of programs) stations
+nodes_told programs policy_nodes = map (node_of programs) policy_nodes
 
 -- the index of the program that a name denotes
 pub record IsPlaceOf (es : List Entry) (used : Name) (place : ℕ) : Type 0 where
   pub within : place < length (known_programs es)
   pub program_is : slice_index_or (known_programs es) place no_program ≡ unwrap_or (program_named es used) fifo
 
--- the station has a program and the properties declared for the node
-pub record IsStationOf (es : List Entry) (name used : Name) (a : Attrs) (q : Queueing) (s : PolicyNode) : Type 0 where
+-- the record has a program and the properties declared for the node
+pub record IsPolicyNodeOf (es : List Entry) (name used : Name) (a : Attrs) (q : Queueing) (s : PolicyNode) : Type 0 where
   pub within : s.program < length (known_programs es)
   pub node_is : node_of (known_programs es) s ≡ said es name used a q
 
--- the stations have one more at the end, if the statement declares a node or leaf
+-- the records have one more at the end, if the statement declares a node or leaf
 pub record AreMore (es : List Entry) (s : Sense) (old new : List PolicyNode) : Type 0 where
   pub nodes : nodes_told (known_programs es) new ≡ nodes_told (known_programs es) old ++ cons_option (node_in es s) []
   pub programs : HavePrograms new (known_programs es)

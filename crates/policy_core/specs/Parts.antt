@@ -1,4 +1,4 @@
--- The policy given by a tree of numbered nodes, stations, transactions and classes.
+-- The policy given by a tree of numbered nodes, their records, transactions and classes.
 use Rattle.std.specs.Prelude.{◌≡◌, ◌<◌, ◌≤◌, ℕ, List, [], ◌∷◌, ◌++◌, map, length, slice_index_or}
 use Rattle.std.specs.List.{AllByRecursion}
 use Rattle.tree_defs.specs.Tree.{Tree, most_nodes}
@@ -21,30 +21,30 @@ abbrev pub told : Marks → Told
 told m = record { prio = m.prio; weight = m.weight; slack = m.slack }
 
 -- the default for an index past the end of a list
-abbrev pub no_station : PolicyNode
-no_station = record { name = []; using = []; program = 0; marks = record { prio = 0; weight = 1; slack = 0 }; limits = no_limits; group = FiveTuple }
+abbrev pub no_policy_node : PolicyNode
+no_policy_node = record { name = []; using = []; program = 0; marks = record { prio = 0; weight = 1; slack = 0 }; limits = no_limits; group = FiveTuple }
 
 abbrev pub no_program : Program
 no_program = record { keeps = []; eaches = []; push = []; pop = [] }
 
-abbrev pub station_at : List PolicyNode → ℕ → PolicyNode
-station_at stations i = slice_index_or stations i no_station
+abbrev pub policy_node_at : List PolicyNode → ℕ → PolicyNode
+policy_node_at policy_nodes i = slice_index_or policy_nodes i no_policy_node
 
--- a station, with its transaction
+-- the node of a record, with its transaction
 abbrev pub node_of : List Program → PolicyNode → Node
 node_of programs s = record { name = s.name; using = s.using; program = slice_index_or programs s.program no_program; marks = told s.marks; limits = s.limits; group = s.group }
 
--- the tree that has at each node the station of its row
+-- the tree that has at each node the record of its row
 abbrev pub tree_of : Numbered → List PolicyNode → List Program → Tree Node
-tree_of tree stations programs = nodes_from (λ n. node_of programs (station_at stations (row_at tree.rows n).node)) 0 tree.topology
+tree_of tree policy_nodes programs = nodes_from (λ n. node_of programs (policy_node_at policy_nodes (row_at tree.rows n).node)) 0 tree.topology
 
 -- a class, with the address of its leaf
 abbrev pub class_in : Tree Node → Class → Aimed
 class_in tree c = record { marks = told c.marks; leaf = address_at tree c.leaf }
 
 abbrev pub resolved : ℕ → Numbered → List PolicyNode → List Program → List Class → Resolved
-resolved version tree stations programs classes = record {
-  policy = record { version = version; tree = tree_of tree stations programs; classes = map (class_in (tree_of tree stations programs)) classes };
+resolved version tree policy_nodes programs classes = record {
+  policy = record { version = version; tree = tree_of tree policy_nodes programs; classes = map (class_in (tree_of tree policy_nodes programs)) classes };
   conditions = map (λ c. c.conditions) classes;
 }
 
@@ -52,13 +52,13 @@ resolved version tree stations programs classes = record {
 abbrev pub AreNumbered : Numbered → Type 0
 AreNumbered tree = (t : Tree ℕ) × IsNumberedBy t tree.rows tree.topology
 
--- each node of the tree is the index of a station
-abbrev pub HaveStations : Numbered → List PolicyNode → Type 0
-HaveStations tree stations = AllByRecursion (λ r. r.node < length stations) tree.rows
+-- each node of the tree is the index of a record
+abbrev pub HavePolicyNodes : Numbered → List PolicyNode → Type 0
+HavePolicyNodes tree policy_nodes = AllByRecursion (λ r. r.node < length policy_nodes) tree.rows
 
--- each station has the index of a transaction
+-- each record has the index of a transaction
 abbrev pub HavePrograms : List PolicyNode → List Program → Type 0
-HavePrograms stations programs = AllByRecursion (λ s. s.program < length programs) stations
+HavePrograms policy_nodes programs = AllByRecursion (λ s. s.program < length programs) policy_nodes
 
 -- the leaf of each class is the number of a node
 abbrev pub HaveLeaves : Numbered → List Class → Type 0
@@ -71,7 +71,7 @@ HasCatchAll conditions = (others : List (List (List Test))) × (conditions ≡ o
 pub record IsWhole (version : ℕ) (tree : Numbered) (ss : List PolicyNode) (ps : List Program) (cs : List Class) : Type 0 where
   pub numbered : AreNumbered tree
   pub few_nodes : length tree.rows ≤ most_nodes
-  pub stations : HaveStations tree ss
+  pub policy_nodes : HavePolicyNodes tree ss
   pub programs : HavePrograms ss ps
   pub leaves : HaveLeaves tree cs
   pub few : length cs ≤ most_classes

@@ -1,4 +1,4 @@
-//! The stations of the nodes and leaves that statements declare.
+//! The records of the nodes and leaves that statements declare.
 ghost use Rattle.std.specs.Prelude.{◌≡◌, true, List, IfOk, OnOk};
 ghost use Rattle.policy_text_defs.specs.Sense.{Entry, sense_of};
 ghost use Rattle.policy_rules.specs.Accepted.{AreFew};
@@ -8,7 +8,7 @@ ghost use Rattle.policy_rules.specs.Graph.{nodes_in};
 ghost use Rattle.policy_rules.specs.Names.{declared, transaction_name};
 ghost use Rattle.policy_rules.specs.Resolved.{marks_of, limits_of, group_of};
 ghost use Rattle.policy_rules.specs.Known.{known_programs, WhereDeclared};
-ghost use Rattle.policy_core.specs.Made.{nodes_told, IsPlaceOf, IsStationOf, AreMore};
+ghost use Rattle.policy_core.specs.Made.{nodes_told, IsPlaceOf, IsPolicyNodeOf, AreMore};
 ghost use Rattle.policy_core.specs.Parts.{HavePrograms, told};
 
 use crate::parts::{Marks, PolicyNode};
@@ -56,8 +56,8 @@ fn program(transactions: &Names<'_>, used: &str) -> usize
     program_place(transactions, used).unwrap_or(0)
 }
 
-/// Builds the station of a node or leaf.
-fn station(
+/// Builds the record of a node or leaf.
+fn policy_node(
     alloc: Global,
     transactions: &Names<'_>,
     name: &Name,
@@ -65,8 +65,9 @@ fn station(
     attrs: &Attrs,
     queueing: Queueing,
 ) -> Result<PolicyNode, AllocError>
-    ensures station { WhereDeclared transactions.now (λ es. is_transaction_known es used.now ≡ true
-        → IfOk result (IsStationOf es name.now used.now attrs.now queueing)) }
+    ensures policy_node { WhereDeclared transactions.now (λ es.
+        is_transaction_known es used.now ≡ true
+        → IfOk result (IsPolicyNodeOf es name.now used.now attrs.now queueing)) }
 {
     Ok(PolicyNode {
         name: Name::new(alloc, name.as_str())?,
@@ -78,31 +79,31 @@ fn station(
     })
 }
 
-/// Adds the station of a statement, if it declares a node or leaf.
-fn add_station(
+/// Adds the record of a statement, if it declares a node or leaf.
+fn add_policy_node(
     alloc: Global,
-    stations: &mut List<PolicyNode>,
+    policy_nodes: &mut List<PolicyNode>,
     transactions: &Names<'_>,
     statement: &Statement,
 ) -> Result<(), AllocError>
     ensures added { WhereDeclared transactions.now (λ es. (earlier : List Entry) →
         is_known es earlier (sense_of statement.now) ≡ true
-        → HavePrograms stations.old (known_programs es) → OnOk result (AreMore es (sense_of statement.now) stations.old stations.new)) }
+        → HavePrograms policy_nodes.old (known_programs es) → OnOk result (AreMore es (sense_of statement.now) policy_nodes.old policy_nodes.new)) }
 {
     match statement {
         Statement::Leaf(name, used, attrs, queueing, _) => {
-            stations.push(station(alloc, transactions, name, used, attrs, *queueing)?)
+            policy_nodes.push(policy_node(alloc, transactions, name, used, attrs, *queueing)?)
         }
         Statement::Node(name, used, attrs, queueing, _) => {
-            stations.push(station(alloc, transactions, name, used, attrs, *queueing)?)
+            policy_nodes.push(policy_node(alloc, transactions, name, used, attrs, *queueing)?)
         }
         _ => Ok(()),
     }
 }
 
-/// Returns the stations of all nodes and leaves, in the order of their statements. The error means
+/// Returns the records of all nodes and leaves, in the order of their statements. The error means
 /// out of memory.
-pub(crate) fn stations(
+pub(crate) fn policy_nodes(
     alloc: Global,
     lines: &[(u32, Statement)],
     transactions: &Names<'_>,
@@ -115,9 +116,9 @@ pub(crate) fn stations(
     ensures programs { IfOk result (λ all. HavePrograms all (known_programs
         (entries_of lines.now))) }
 {
-    let mut stations = List::from_vec(Vec::new(alloc));
+    let mut policy_nodes = List::from_vec(Vec::new(alloc));
     for (_, statement) in lines {
-        add_station(alloc, &mut stations, transactions, statement)?;
+        add_policy_node(alloc, &mut policy_nodes, transactions, statement)?;
     }
-    Ok(stations)
+    Ok(policy_nodes)
 }

@@ -9,7 +9,7 @@ ghost use Rattle.policy_defs.specs.BuiltIn.{AreBuiltIn};
 ghost use Rattle.text_core.specs.Tokens.{most_name};
 ghost use Rattle.policy_defs.specs.Numbers.{number_at};
 ghost use Rattle.policy_core.specs.Numbering.{address_at, HasAt};
-ghost use Rattle.policy_core.specs.Parts.{resolved, told, class_in, AreNumbered, HaveStations, HavePrograms, HaveLeaves, HasCatchAll, station_at};
+ghost use Rattle.policy_core.specs.Parts.{resolved, told, class_in, AreNumbered, HavePolicyNodes, HavePrograms, HaveLeaves, HasCatchAll, policy_node_at};
 ghost use Rattle.tree_graph.specs.Row.{row_at};
 ghost use Rattle.policy_rules.specs.Clauses.{most_classes};
 
@@ -27,7 +27,7 @@ use tree_graph::Preorder;
 pub struct Policy {
     version: u32,
     tree: Preorder,
-    stations: List<PolicyNode>,
+    policy_nodes: List<PolicyNode>,
     programs: List<Checked>,
     classes: List<Class>,
 }
@@ -41,36 +41,38 @@ impl Model for Policy {
 
     ghost coded = { resolved_code };
 
-    ghost view = { λ p. resolved p.version p.tree p.stations p.programs p.classes };
+    ghost view = { λ p. resolved p.version p.tree p.policy_nodes p.programs p.classes };
 
-    ghost invariant = { λ p. IsWhole p.version p.tree p.stations p.programs p.classes };
+    ghost invariant = { λ p. IsWhole p.version p.tree p.policy_nodes p.programs p.classes };
 }
 
 impl Policy {
     /// Builds a policy of this version from its parts. Each node of the tree is the index of its
-    /// station, and each station has the index of its transaction.
+    /// record, and each record has the index of its transaction.
     pub fn new(
         version: u32,
         tree: Preorder,
-        stations: List<PolicyNode>,
+        policy_nodes: List<PolicyNode>,
         programs: List<Checked>,
         classes: List<Class>,
     ) -> Policy
         requires numbered { AreNumbered tree }
         requires few_nodes { length tree.rows ≤ most_nodes }
-        requires stations { HaveStations tree stations }
-        requires programs { HavePrograms stations programs }
+        requires policy_nodes { HavePolicyNodes tree policy_nodes }
+        requires programs { HavePrograms policy_nodes programs }
         requires leaves { HaveLeaves tree classes }
         requires few { length classes ≤ most_classes }
         requires catch_all { HasCatchAll (map (λ c. c.conditions) classes) }
-        requires accepted { IsAccepted (resolved version tree stations programs classes).policy }
-        requires built_in { AreBuiltIn (resolved version tree stations programs classes).policy }
-        ensures policy { result ≡ resolved version tree stations programs classes }
+        requires accepted { IsAccepted
+            (resolved version tree policy_nodes programs classes).policy }
+        requires built_in { AreBuiltIn
+            (resolved version tree policy_nodes programs classes).policy }
+        ensures policy { result ≡ resolved version tree policy_nodes programs classes }
     {
         Policy {
             version,
             tree,
-            stations,
+            policy_nodes,
             programs,
             classes,
         }
@@ -117,7 +119,7 @@ impl Policy {
         ensures name { HasAt self.now.policy.tree node (λ n. result.now ≡ n.name) }
         ensures short { length result.now ≤ most_name }
     {
-        station_of(&self.tree, self.stations.as_slice(), node)
+        policy_node_of(&self.tree, self.policy_nodes.as_slice(), node)
             .name
             .as_str()
     }
@@ -157,8 +159,8 @@ impl Policy {
         requires there { node < nodes self.now.policy.tree }
         ensures program { HasAt self.now.policy.tree node (λ n. result.now ≡ n.program) }
     {
-        let station = station_of(&self.tree, self.stations.as_slice(), node);
-        &self.programs.as_slice()[station.program]
+        let policy_node = policy_node_of(&self.tree, self.policy_nodes.as_slice(), node);
+        &self.programs.as_slice()[policy_node.program]
     }
 
     /// Returns the marks of a node or leaf.
@@ -166,7 +168,7 @@ impl Policy {
         requires there { node < nodes self.now.policy.tree }
         ensures marks { HasAt self.now.policy.tree node (λ n. told result ≡ n.marks) }
     {
-        station_of(&self.tree, self.stations.as_slice(), node).marks
+        policy_node_of(&self.tree, self.policy_nodes.as_slice(), node).marks
     }
 
     /// Returns the limits of a node or leaf.
@@ -174,7 +176,7 @@ impl Policy {
         requires there { node < nodes self.now.policy.tree }
         ensures limits { HasAt self.now.policy.tree node (λ n. result ≡ n.limits) }
     {
-        station_of(&self.tree, self.stations.as_slice(), node).limits
+        policy_node_of(&self.tree, self.policy_nodes.as_slice(), node).limits
     }
 
     /// Returns the fields by which a node or leaf tells flows apart.
@@ -182,7 +184,7 @@ impl Policy {
         requires there { node < nodes self.now.policy.tree }
         ensures group { HasAt self.now.policy.tree node (λ n. result ≡ n.group) }
     {
-        station_of(&self.tree, self.stations.as_slice(), node).group
+        policy_node_of(&self.tree, self.policy_nodes.as_slice(), node).group
     }
 
     /// Returns the name of a node's or leaf's transaction, as written.
@@ -191,7 +193,7 @@ impl Policy {
         ensures using { HasAt self.now.policy.tree node (λ n. result.now ≡ n.using) }
         ensures built_in { AreBuiltIn self.now.policy }
     {
-        station_of(&self.tree, self.stations.as_slice(), node)
+        policy_node_of(&self.tree, self.policy_nodes.as_slice(), node)
             .using
             .as_str()
     }
@@ -217,11 +219,11 @@ impl NodeNames for Policy {
     }
 }
 
-/// Returns the station of a node of the tree.
-fn station_of<'a>(tree: &Preorder, stations: &'a [PolicyNode], node: u32) -> &'a PolicyNode
+/// Returns the record of a node of the tree.
+fn policy_node_of<'a>(tree: &Preorder, policy_nodes: &'a [PolicyNode], node: u32) -> &'a PolicyNode
     requires there { node < length tree.now.rows }
-    requires stations { HaveStations tree.now stations.now }
-    ensures { result.now ≡ station_at stations.entry.now (row_at tree.now.rows node).node }
+    requires policy_nodes { HavePolicyNodes tree.now policy_nodes.now }
+    ensures { result.now ≡ policy_node_at policy_nodes.entry.now (row_at tree.now.rows node).node }
 {
-    &stations[tree.node(node) as usize]
+    &policy_nodes[tree.node(node) as usize]
 }

@@ -13,7 +13,7 @@ use crate::classes::classes;
 use crate::faults::check_family;
 use crate::graphs::graph;
 use crate::homes::leaves;
-use crate::nodes::stations;
+use crate::nodes::policy_nodes;
 use crate::policy::Policy;
 use list_core::List;
 use policy_rules::{
@@ -44,10 +44,10 @@ fn assemble(
 {
     let root = spaces.nodes.place("root").unwrap_or(0) as u32;
     let tree = Preorder::new(alloc, graph, root)?;
-    let stations = stations(alloc, lines, &spaces.transactions)?;
+    let policy_nodes = policy_nodes(alloc, lines, &spaces.transactions)?;
     let leaves = leaves(alloc, lines, &spaces.classes, &tree)?;
     let classes = classes(alloc, lines, leaves.as_slice())?;
-    Ok(Policy::new(version(lines), tree, stations, programs, classes))
+    Ok(Policy::new(version(lines), tree, policy_nodes, programs, classes))
 }
 
 /// Rejects statements whose leaves or limits break a rule.

@@ -11,7 +11,7 @@ pub mod RanksTold
 pub mod NodeSteps
 pub mod WayVisits
 pub mod StepsMade
-pub mod WaypointsMade
+pub mod PathNodesMade
 pub mod ClassLeaves
 pub mod ChildCounts
 pub mod RoomLaws

@@ -22,7 +22,7 @@ use Rattle.sched_defs.specs.Sound.{IsSound}
 use Rattle.sched_defs.proofs.Queued.{class_is_ready}
 use Rattle.sched_defs.proofs.Runs.{none_is_over}
 use Rattle.sched_defs.proofs.Totals.{total-pushed, total-left_leaf, total-start, total-least, total-packets, total-bytes, way-last, leads_over-leaf}
-use Rattle.sched_core.specs.Waypoints.{IsClassPath}
+use Rattle.sched_core.specs.PathNodes.{IsClassPath}
 use Rattle.sched_core.specs.declared.path_node.ClassPath.{ClassPath}
 use Rattle.sched_core.specs.NodeTotals.{Amounts, nothing, raised, lowered}
 use Rattle.sched_core.specs.Totals.{Values, IsPath, AreInside, AreApart, HaveRoom, AreFew, IsTotal, AreTotals, AreKept, AreSized, MayTotals, HaveRoomTo, HasTotalsRoom, IsLeafLimit, HaveLeafLimits, with_one_more, with_one_fewer, amounts_in}

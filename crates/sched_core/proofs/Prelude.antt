@@ -45,10 +45,10 @@ pub use Rattle.sched_core.specs.Agreement.{policy_of, AreStates}
 pub use Rattle.sched_core.specs.Arrivals.{leaf_number}
 pub use Rattle.sched_core.specs.Chunks.{packet_within, packet_from, packet_of, numbers_below}
 pub use Rattle.sched_core.specs.Held.{or_stray, held_at, numbers_in}
-pub use Rattle.sched_core.specs.Kept.{part_at, HaveValues, AreStations, HasRoomAt, IsStationOf, arity, Keeps}
+pub use Rattle.sched_core.specs.Kept.{part_at, HaveValues, AreNodeStates, HasRoomAt, IsNodeStateOf, arity, Keeps}
 pub use Rattle.sched_core.specs.PolicyState.{policy_in, AreFilled, PopsNext}
 pub use Rattle.sched_core.specs.Slots.{packet_in, packet_among, are_ordered, filled_among, place_behind, stands_at}
-pub use Rattle.sched_core.specs.Waypoints.{marks_on, AreWaypoints, rank_told, IsWaypoint, AreWays, mark_told}
+pub use Rattle.sched_core.specs.PathNodes.{marks_on, ArePathNodes, rank_told, IsPathNode, AreWays, mark_told}
 pub use Rattle.sched_core.specs.Ways.{tree_for, class_for, IsReady, ForValues, KeepsRoom, stop, AreLowRanks, ahead, part, place, way, who_on, HasRoomAtLeaf, IsAtLevel, ValuesBecome}
 pub use Rattle.sched_core.specs.Windows.{packet_at, end_of}
 pub use Rattle.sched_core.specs.declared.chunk.Chunk.{Chunk}

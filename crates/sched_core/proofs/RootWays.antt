@@ -1,8 +1,8 @@
 -- The path from the root.
-use Rattle.sched_core.proofs.Prelude.{arith, ◌≡◌, ap, ◌∙◌, sym, ℕ, List, subst, Some, [], Option, ◌≤◌, ◌<◌, get_or, slice_get-get_or, slice_get, unwrap_or, Packet, IsAccepted, IsClassReady, IsNumber, Node, Policy, no_marks, max_rank, number_at, address_at, class_ready, IsKnown, class_of, visits_from, Tree, LeadsToLeaf, nodes, part_at, AreWaypoints, AreWays, tree_for, class_for, IsReady, PacketPath, PathNode}
+use Rattle.sched_core.proofs.Prelude.{arith, ◌≡◌, ap, ◌∙◌, sym, ℕ, List, subst, Some, [], Option, ◌≤◌, ◌<◌, get_or, slice_get-get_or, slice_get, unwrap_or, Packet, IsAccepted, IsClassReady, IsNumber, Node, Policy, no_marks, max_rank, number_at, address_at, class_ready, IsKnown, class_of, visits_from, Tree, LeadsToLeaf, nodes, part_at, ArePathNodes, AreWays, tree_for, class_for, IsReady, PacketPath, PathNode}
 use Rattle.policy_defs.specs.Policy.{Class}
 use Rattle.sched_core.specs.declared.path_node.ClassPath.{ClassPath}
-use Rattle.sched_core.specs.Waypoints.{IsClassPath}
+use Rattle.sched_core.specs.PathNodes.{IsClassPath}
 use Rattle.sched_core.proofs.TreeParts.{root-part, part-known}
 use Rattle.sched_core.proofs.Filling.{leaf-numbered}
 
@@ -30,13 +30,13 @@ module _ (policy : Policy) (p : Packet) (known : IsKnown policy p) where
   leaf-address accepted k path = ap (address_at policy.tree) path.leaf ∙ (leaf-numbered policy.tree (class_of policy p).leaf (prepared accepted).leaf_address).address
 
 pub ready : (e : PacketPath) → IsAccepted e.policy.now.policy → IsKnown e.policy.now.policy e.packet.now → e.moment ≤ max_rank
-    → (k : ClassPath) → IsClassPath e.policy.now.policy (class_for e) k → e.waypoints.now ≡ k.nodes.items → IsReady e
-ready e accepted known moment k path waypoints =
+    → (k : ClassPath) → IsClassPath e.policy.now.policy (class_for e) k → e.path_nodes.now ≡ k.nodes.items → IsReady e
+ready e accepted known moment k path path_nodes =
     let prepared : IsClassReady (tree_for e) (class_for e) = prepared e.policy.now.policy e.packet.now known accepted in
     record {
       accepted = accepted;
       leads = prepared.leaf_address;
-      waypoints = subst (λ (ss : List PathNode). AreWaypoints (tree_for e) (class_for e) ss) (sym waypoints) path.nodes;
+      path_nodes = subst (λ (ss : List PathNode). ArePathNodes (tree_for e) (class_for e) ss) (sym path_nodes) path.nodes;
       marks = prepared.marks;
       len = known.len;
       moment = moment;

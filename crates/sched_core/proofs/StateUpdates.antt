@@ -1,5 +1,5 @@
 -- The states with one node's state replaced.
-use Rattle.sched_core.proofs.Prelude.{arith, ◌≡◌, ap, ◌∙◌, sym, ℕ, List, subst, Some, ◌<◌, [], refl, ◌∷◌, None, suc, zero, if◌then◌else◌, Bool, false, true, ◌≢◌, bytes_eq, length-set, slice_get, slice_set, address-undone, number-undone, address_at, number_at, Node, HasRoom, state_of, NodeState, same-trans, SameState, State, Who, States, with_state, Tree, Address, nodes, subtree, IsAddressOf, part_at, HaveValues, AreStations, HasRoomAt, IsStationOf, Keeps}
+use Rattle.sched_core.proofs.Prelude.{arith, ◌≡◌, ap, ◌∙◌, sym, ℕ, List, subst, Some, ◌<◌, [], refl, ◌∷◌, None, suc, zero, if◌then◌else◌, Bool, false, true, ◌≢◌, bytes_eq, length-set, slice_get, slice_set, address-undone, number-undone, address_at, number_at, Node, HasRoom, state_of, NodeState, same-trans, SameState, State, Who, States, with_state, Tree, Address, nodes, subtree, IsAddressOf, part_at, HaveValues, AreNodeStates, HasRoomAt, IsNodeStateOf, Keeps}
 use Rattle.std.proofs.lemmas.Slice.Eq.{bytes_eq-Decides}
 use Rattle.sched_core.proofs.TreeParts.{some-is, part-known}
 
@@ -36,14 +36,14 @@ module _ (tree : Tree Node) (states : List NodeState) (k : ℕ) (x' : NodeState)
   same-address : (b : Address) → IsAddressOf tree b → number_at tree b ≡ k → b ≡ address_at tree k
   same-address b p is = sym (number-undone tree b p.0 p.1).address ∙ ap (address_at tree) is
 
-  pub stations-set : IsStationOf (part_at tree (address_at tree k)) x' → AreStations tree states → AreStations tree (slice_set states k x')
-  stations-set station h = record { count = length-set states k x' ∙ h.count; each = each }
+  pub node_states-set : IsNodeStateOf (part_at tree (address_at tree k)) x' → AreNodeStates tree states → AreNodeStates tree (slice_set states k x')
+  node_states-set node_state h = record { count = length-set states k x' ∙ h.count; each = each }
     where
-      each : (b : Address) (t : Tree Node) (y : NodeState) → subtree tree b ≡ Some t → Keeps tree (slice_set states k x') b y → IsStationOf t y
+      each : (b : Address) (t : Tree Node) (y : NodeState) → subtree tree b ≡ Some t → Keeps tree (slice_set states k x') b y → IsNodeStateOf t y
       each b t y e keeps = set-cases states k (number_at tree b) x' y keeps
           (λ same is.
           let t-is : part_at tree (address_at tree k) ≡ t = ap (part_at tree) (sym (same-address b (t, e) same)) ∙ part-known tree b t e in
-          subst (λ (u : Tree Node). IsStationOf u y) t-is (subst (λ (z : NodeState). IsStationOf (part_at tree (address_at tree k)) z) (sym is) station))
+          subst (λ (u : Tree Node). IsNodeStateOf u y) t-is (subst (λ (z : NodeState). IsNodeStateOf (part_at tree (address_at tree k)) z) (sym is) node_state))
           (λ _ old. h.each b t y e old)
 
   pub values-set : (values : States) (s : State) → k < nodes tree → SameState (state_of x') s → HaveValues tree states values → HaveValues tree (slice_set states k x') (with_state values (address_at tree k) s)

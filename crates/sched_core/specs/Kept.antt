@@ -32,15 +32,15 @@ abbrev pub Keeps : Tree Node → List NodeState → Address → NodeState → Ty
 Keeps tree states a x = slice_get states (number_at tree a) ≡ Some x
 
 -- a node's state: each variable is in its range, and there is room for each child
-pub record IsStationOf (t : Tree Node) (x : NodeState) : Type 0 where
+pub record IsNodeStateOf (t : Tree Node) (x : NodeState) : Type 0 where
   pub in_range : IsStateInRange (root_of t).program (state_of x)
   pub children : children_of x ≡ arity t
   pub room : (i : ℕ) → BelongsTo (arity t) (Child i) → HasRoom x (Child i)
 
 -- one state for each node
-pub record AreStations (tree : Tree Node) (states : List NodeState) : Type 0 where
+pub record AreNodeStates (tree : Tree Node) (states : List NodeState) : Type 0 where
   pub count : length states ≡ nodes tree
-  pub each : (a : Address) (t : Tree Node) (x : NodeState) → subtree tree a ≡ Some t → Keeps tree states a x → IsStationOf t x
+  pub each : (a : Address) (t : Tree Node) (x : NodeState) → subtree tree a ≡ Some t → Keeps tree states a x → IsNodeStateOf t x
 
 AreWithin-prop : (spans : List Span) (values : List ℕ) → IsProp (AreWithin spans values)
 AreWithin-prop [] [] = Unit-prop
@@ -48,8 +48,8 @@ AreWithin-prop [] (v ∷ values) = λ a b. absurd a
 AreWithin-prop (s ∷ spans) [] = λ a b. absurd a
 AreWithin-prop (s ∷ spans) (v ∷ values) = λ a b i. (le_prop a.0 b.0 i, le_prop a.1 b.1 i, AreWithin-prop spans values a.2 b.2 i)
 
-IsStationOf-prop : (t : Tree Node) (x : NodeState) → IsProp (IsStationOf t x)
-IsStationOf-prop t x a b i = record {
+IsNodeStateOf-prop : (t : Tree Node) (x : NodeState) → IsProp (IsNodeStateOf t x)
+IsNodeStateOf-prop t x a b i = record {
   in_range = record {
     keeps = AreWithin-prop (root_of t).program.keeps (state_of x).keeps a.in_range.keeps b.in_range.keeps i;
     eaches = λ who. AreWithin-prop (root_of t).program.eaches ((state_of x).eaches who) (a.in_range.eaches who) (b.in_range.eaches who) i;
@@ -59,10 +59,10 @@ IsStationOf-prop t x a b i = record {
 }
 
 -- all proofs of it are equal
-pub AreStations-prop : (tree : Tree Node) (states : List NodeState) → IsProp (AreStations tree states)
-AreStations-prop tree states a b i = record {
+pub AreNodeStates-prop : (tree : Tree Node) (states : List NodeState) → IsProp (AreNodeStates tree states)
+AreNodeStates-prop tree states a b i = record {
   count = Coded-set coded_ℕ _ _ a.count b.count i;
-  each = λ c t x e k. IsStationOf-prop t x (a.each c t x e k) (b.each c t x e k) i;
+  each = λ c t x e k. IsNodeStateOf-prop t x (a.each c t x e k) (b.each c t x e k) i;
 }
 
 -- the variables of each node have these values

@@ -12,7 +12,7 @@ pub mod Totals
 pub mod PolicyState
 pub mod Direct
 pub mod Kept
-pub mod Waypoints
+pub mod PathNodes
 pub mod Ways
 pub mod Agreement
 pub mod Samples

@@ -15,7 +15,7 @@ use Rattle.sched_core.specs.Totals.{AreKept, amounts_in}
 use Rattle.sched_core.specs.Standing.{StandForOne, ForEachState}
 
 abbrev pub policy_in : PolicyState → Policy
-policy_in own = policy_of own.stations
+policy_in own = policy_of own.node_states
 
 -- at the number of each leaf, how many packets are in it
 abbrev pub AreFilled : Policy → List ℕ → SourceState → Type 0
@@ -25,7 +25,7 @@ AreFilled policy counts s = (a : Address) → LeadsToLeaf policy.tree a → slic
 -- limits need it, and the latest timestamp (`moment`) are those of the state. No more packets are
 -- queued than were pushed.
 pub record IsOwn (own : PolicyState) (s : SourceState) : Type 0 where
-  pub nodes : AreStates own.stations s.nodes
+  pub nodes : AreStates own.node_states s.nodes
   pub held : (n : ℕ) → held_at own.held n ≡ s.held n
   pub filled : AreFilled (policy_in own) own.filled.items s
   pub totals : AreKept (policy_in own) own.totals (amounts_in (policy_in own) s)

@@ -15,8 +15,8 @@ use Rattle.policy_defs.specs.Accepted.{IsAccepted, AreMarksInRange}
 use Rattle.sched_defs.specs.SourceState.{class_of}
 use Rattle.sched_defs.specs.Visits.{States, Visit, visit, env_for, visits_from}
 use Rattle.sched_core.specs.declared.node_states.PacketPath.{PacketPath}
-use Rattle.sched_core.specs.Kept.{part_at, HasRoomAt, HaveValues, AreStations}
-use Rattle.sched_core.specs.Waypoints.{marks_on, AreWaypoints}
+use Rattle.sched_core.specs.Kept.{part_at, HasRoomAt, HaveValues, AreNodeStates}
+use Rattle.sched_core.specs.PathNodes.{marks_on, ArePathNodes}
 
 abbrev pub tree_for : PacketPath → Tree Node
 tree_for e = e.policy.now.policy.tree
@@ -41,7 +41,7 @@ part e level = part_at (tree_for e) (place e level)
 pub record IsReady (e : PacketPath) : Type 0 where
   pub accepted : IsAccepted e.policy.now.policy
   pub leads : LeadsToLeaf (tree_for e) (class_for e).leaf
-  pub waypoints : AreWaypoints (tree_for e) (class_for e) e.waypoints.now
+  pub path_nodes : ArePathNodes (tree_for e) (class_for e) e.path_nodes.now
   pub marks : AreMarksInRange (class_for e).marks
   pub len : e.packet.now.len ≤ max_len
   pub moment : e.moment ≤ max_rank
@@ -72,7 +72,7 @@ pub record IsAtLevel (e : PacketPath) (digits : List ℕ) (level : ℕ) (states 
   pub ready : IsReady e
   pub digits_are : digits ≡ (class_for e).leaf
   pub low : level ≤ length digits
-  pub kept : AreStations (tree_for e) states
+  pub kept : AreNodeStates (tree_for e) states
   pub room : HasRoomAtLeaf e states
 
 -- each is at most the greatest rank

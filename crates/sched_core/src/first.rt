@@ -5,7 +5,7 @@ ghost use Rattle.tree_core.specs.Shape.{topology};
 ghost use Rattle.rank_defs.specs.States.{first_state};
 ghost use Rattle.rank_core.specs.Node.{HasState};
 ghost use Rattle.sched_defs.specs.SourceState.{first_states};
-ghost use Rattle.sched_core.specs.Kept.{part_at, arity, IsStationOf, AreStations, HaveValues, numbered_part};
+ghost use Rattle.sched_core.specs.Kept.{part_at, arity, IsNodeStateOf, AreNodeStates, HaveValues, numbered_part};
 
 use policy_core::Policy;
 use rank_core::NodeState;
@@ -28,7 +28,7 @@ fn arity(topo: &Topo, address: &[u32]) -> Option<usize>
 
 fn first_state(alloc: Global, policy: &Policy, node: u32) -> Result<NodeState, AllocError>
     requires there { node < nodes policy.now.policy.tree }
-    ensures station { IfOk result (IsStationOf (numbered_part policy.now.policy.tree node)) }
+    ensures node_state { IfOk result (IsNodeStateOf (numbered_part policy.now.policy.tree node)) }
     ensures first { IfOk result (λ x. HasState x (first_state
         (root_of (numbered_part policy.now.policy.tree node)).program)) }
 {
@@ -41,7 +41,7 @@ fn first_state(alloc: Global, policy: &Policy, node: u32) -> Result<NodeState, A
 
 /// Returns the initial variables of all nodes, by node number. The error means out of memory.
 pub fn first_states(alloc: Global, policy: &Policy) -> Result<Vec<NodeState>, AllocError>
-    ensures kept { IfOk result (λ states. AreStations policy.now.policy.tree states.items) }
+    ensures kept { IfOk result (λ states. AreNodeStates policy.now.policy.tree states.items) }
     ensures values { IfOk result (λ states. HaveValues policy.now.policy.tree states.items
         (first_states policy.now.policy.tree)) }
 {

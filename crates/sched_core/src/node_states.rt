@@ -9,9 +9,9 @@ ghost use Rattle.policy_core.specs.Parts.{told};
 ghost use Rattle.sched_defs.specs.Visits.{States, env_for, rank_at, ranks_pushed, after_pushes, after_pops};
 ghost use Rattle.sched_defs.specs.SourceState.{first_states, class_of, way_in, way_out};
 ghost use Rattle.sched_defs.specs.Sound.{IsKnown};
-ghost use Rattle.sched_core.specs.Kept.{AreStations, AreStations-prop};
+ghost use Rattle.sched_core.specs.Kept.{AreNodeStates, AreNodeStates-prop};
 ghost use Rattle.policy_defs.specs.Accepted.{IsAccepted, AreMarksInRange};
-ghost use Rattle.sched_core.specs.Waypoints.{IsClassPath, AreWays, AreWays-prop};
+ghost use Rattle.sched_core.specs.PathNodes.{IsClassPath, AreWays, AreWays-prop};
 ghost use Rattle.sched_core.specs.Ways.{AreLowRanks, IsAtLevel, tree_for, stop, ForValues, ValuesBecome, KeepsRoom};
 
 use crate::first::first_states;
@@ -30,7 +30,7 @@ pub struct NodeStates<'a> {
     policy: &'a Policy,
     states: Vec<NodeState>,
     paths: Vec<ClassPath<'a>>,
-    ghost kept: { AreStations policy.now.policy.tree states.items } by { AreStations-prop policy.now.policy.tree states.items },
+    ghost kept: { AreNodeStates policy.now.policy.tree states.items } by { AreNodeStates-prop policy.now.policy.tree states.items },
     ghost known: { AreWays policy.now.policy paths.items } by { AreWays-prop policy.now.policy paths.items },
 }
 
@@ -115,7 +115,7 @@ impl<'a> NodeStates<'a> {
         let digits = path.digits;
         let passage = PacketPath {
             policy: self.policy,
-            waypoints: path.nodes.as_slice(),
+            path_nodes: path.nodes.as_slice(),
             packet,
             moment,
         };
@@ -145,7 +145,7 @@ impl<'a> NodeStates<'a> {
         let path = &self.paths[packet.class as usize];
         let passage = PacketPath {
             policy: self.policy,
-            waypoints: path.nodes.as_slice(),
+            path_nodes: path.nodes.as_slice(),
             packet,
             moment,
         };
@@ -163,7 +163,7 @@ impl<'a> NodeStates<'a> {
 #[derive(Drop)]
 pub struct PacketPath<'a> {
     pub policy: &'a Policy,
-    pub waypoints: &'a [PathNode<'a>],
+    pub path_nodes: &'a [PathNode<'a>],
     pub packet: &'a Packet,
     pub moment: u64,
 }
@@ -197,21 +197,21 @@ fn push_lines(states: &mut [NodeState], passage: &PacketPath, digits: &[u32], le
         rank_at v (stop passage.now level)) }
     ensures values { ValuesBecome passage.now states.old states.new
         (after_pushes (stop passage.now level ∷ [])) }
-    ensures kept { AreStations (tree_for passage.now) states.new }
+    ensures kept { AreNodeStates (tree_for passage.now) states.new }
     ensures room { KeepsRoom passage.now states.old states.new }
     ensures limit { result ≤ max_rank }
 {
-    let waypoint = &passage.waypoints[level];
-    let transaction = waypoint.transaction;
-    let state = &mut states[waypoint.node as usize];
-    let env = passage.env(&waypoint.marks);
+    let path_node = &passage.path_nodes[level];
+    let transaction = path_node.transaction;
+    let state = &mut states[path_node.node as usize];
+    let env = passage.env(&path_node.marks);
     if level < digits.len() {
         let child = Who::Child(digits[level]);
-        return push_by_form(&waypoint.push, transaction, state, &child, &env);
+        return push_by_form(&path_node.push, transaction, state, &child, &env);
     }
-    let key = waypoint.group.of(&passage.packet.flow);
+    let key = path_node.group.of(&passage.packet.flow);
     let grouped = Who::Flow(key);
-    push_by_form(&waypoint.push, transaction, state, &grouped, &env)
+    push_by_form(&path_node.push, transaction, state, &grouped, &env)
 }
 
 /// Runs the push step at a level of the path. Returns the packet's rank there. If the marks alone
@@ -224,26 +224,26 @@ fn push_at(states: &mut [NodeState], passage: &PacketPath, digits: &[u32], level
         rank_at v (stop passage.now level)) }
     ensures values { ValuesBecome passage.now states.old states.new
         (after_pushes (stop passage.now level ∷ [])) }
-    ensures kept { AreStations (tree_for passage.now) states.new }
+    ensures kept { AreNodeStates (tree_for passage.now) states.new }
     ensures room { KeepsRoom passage.now states.old states.new }
     ensures limit { result ≤ max_rank }
 {
-    let waypoint = &passage.waypoints[level];
-    if let Some(rank) = waypoint.told {
+    let path_node = &passage.path_nodes[level];
+    if let Some(rank) = path_node.told {
         return rank;
     }
-    let (Form::Fair(_), FlowGroup::FiveTuple) = (&waypoint.push, waypoint.group) else {
+    let (Form::Fair(_), FlowGroup::FiveTuple) = (&path_node.push, path_node.group) else {
         return push_lines(states, passage, digits, level);
     };
-    let transaction = waypoint.transaction;
-    let state = &mut states[waypoint.node as usize];
-    let env = passage.env(&waypoint.marks);
+    let transaction = path_node.transaction;
+    let state = &mut states[path_node.node as usize];
+    let env = passage.env(&path_node.marks);
     if level < digits.len() {
         let child = Who::Child(digits[level]);
-        return push_by_form(&waypoint.push, transaction, state, &child, &env);
+        return push_by_form(&path_node.push, transaction, state, &child, &env);
     }
     let flow = Who::Flow(passage.packet.flow);
-    push_by_form(&waypoint.push, transaction, state, &flow, &env)
+    push_by_form(&path_node.push, transaction, state, &flow, &env)
 }
 
 /// Runs any pop step at a level of the path, for a packet taken with a rank. A call of its own keeps
@@ -260,20 +260,20 @@ fn pop_lines(
     requires limit { rank ≤ max_rank }
     ensures values { ValuesBecome passage.now states.old states.new
         (after_pops (stop passage.now level ∷ []) (rank ∷ [])) }
-    ensures kept { AreStations (tree_for passage.now) states.new }
+    ensures kept { AreNodeStates (tree_for passage.now) states.new }
     ensures room { KeepsRoom passage.now states.old states.new }
 {
-    let waypoint = &passage.waypoints[level];
-    let transaction = waypoint.transaction;
-    let state = &mut states[waypoint.node as usize];
-    let env = passage.env(&waypoint.marks);
+    let path_node = &passage.path_nodes[level];
+    let transaction = path_node.transaction;
+    let state = &mut states[path_node.node as usize];
+    let env = passage.env(&path_node.marks);
     if level < digits.len() {
         let child = Who::Child(digits[level]);
-        return pop_by_form(&waypoint.pop, transaction, state, &child, rank, &env);
+        return pop_by_form(&path_node.pop, transaction, state, &child, rank, &env);
     }
-    let key = waypoint.group.of(&passage.packet.flow);
+    let key = path_node.group.of(&passage.packet.flow);
     let grouped = Who::Flow(key);
-    pop_by_form(&waypoint.pop, transaction, state, &grouped, rank, &env);
+    pop_by_form(&path_node.pop, transaction, state, &grouped, rank, &env);
 }
 
 /// Runs the pop step at a level of the path, for a packet taken with a rank. If the node has no
@@ -285,23 +285,23 @@ fn pop_at(states: &mut [NodeState], passage: &PacketPath, digits: &[u32], level:
     requires limit { rank ≤ max_rank }
     ensures values { ValuesBecome passage.now states.old states.new
         (after_pops (stop passage.now level ∷ []) (rank ∷ [])) }
-    ensures kept { AreStations (tree_for passage.now) states.new }
+    ensures kept { AreNodeStates (tree_for passage.now) states.new }
     ensures room { KeepsRoom passage.now states.old states.new }
 {
-    let waypoint = &passage.waypoints[level];
-    if let Form::Empty = waypoint.pop {
+    let path_node = &passage.path_nodes[level];
+    if let Form::Empty = path_node.pop {
         return;
     }
-    let (Form::Kept(_), FlowGroup::FiveTuple) = (&waypoint.pop, waypoint.group) else {
+    let (Form::Kept(_), FlowGroup::FiveTuple) = (&path_node.pop, path_node.group) else {
         return pop_lines(states, passage, digits, level, rank);
     };
-    let transaction = waypoint.transaction;
-    let state = &mut states[waypoint.node as usize];
-    let env = passage.env(&waypoint.marks);
+    let transaction = path_node.transaction;
+    let state = &mut states[path_node.node as usize];
+    let env = passage.env(&path_node.marks);
     if level < digits.len() {
         let child = Who::Child(digits[level]);
-        return pop_by_form(&waypoint.pop, transaction, state, &child, rank, &env);
+        return pop_by_form(&path_node.pop, transaction, state, &child, rank, &env);
     }
     let flow = Who::Flow(passage.packet.flow);
-    pop_by_form(&waypoint.pop, transaction, state, &flow, rank, &env);
+    pop_by_form(&path_node.pop, transaction, state, &flow, rank, &env);
 }

@@ -5,7 +5,7 @@ ghost use Rattle.rank_defs.specs.Programs.{program_of};
 ghost use Rattle.rank_core.specs.Forms.{IsForm};
 ghost use Rattle.policy_core.specs.Numbering.{address_at, HasAt};
 ghost use Rattle.policy_core.specs.Parts.{class_in, told};
-ghost use Rattle.sched_core.specs.Waypoints.{rank_told, program_at, AreWaypoints, IsClassPath, AreWays};
+ghost use Rattle.sched_core.specs.PathNodes.{rank_told, program_at, ArePathNodes, IsClassPath, AreWays};
 
 use policy_core::{Class, Marks, Policy};
 use rank_core::{Aim, Expr, Form, Transaction, Var, pop_form, push_form};
@@ -55,7 +55,7 @@ fn rank_told(transaction: &Transaction, marks: &Marks) -> Option<u64>
 }
 
 /// Returns the path node of a node whose steps use these marks.
-fn waypoint_at<'a>(policy: &'a Policy, node: u32, marks: Marks) -> PathNode<'a>
+fn path_node_at<'a>(policy: &'a Policy, node: u32, marks: Marks) -> PathNode<'a>
     requires there { node < nodes policy.now.policy.tree }
     ensures node { result.node ≡ node }
     ensures program { HasAt policy.now.policy.tree node (λ n. program_at result ≡ n.program) }
@@ -78,7 +78,7 @@ fn waypoint_at<'a>(policy: &'a Policy, node: u32, marks: Marks) -> PathNode<'a>
 }
 
 /// Returns the nodes on the path of a class, from the root down. The error means out of memory.
-fn waypoints_of<'a>(
+fn path_nodes_of<'a>(
     alloc: Global,
     policy: &'a Policy,
     class: &Class,
@@ -86,19 +86,19 @@ fn waypoints_of<'a>(
     requires there { class.now.leaf < nodes policy.now.policy.tree }
     requires leads { LeadsToLeaf policy.now.policy.tree (address_at policy.now.policy.tree
         class.now.leaf) }
-    ensures { IfOk result (λ waypoints. AreWaypoints policy.now.policy.tree
-        (class_in policy.now.policy.tree class.now) waypoints.items) }
+    ensures { IfOk result (λ path_nodes. ArePathNodes policy.now.policy.tree
+        (class_in policy.now.policy.tree class.now) path_nodes.items) }
 {
     let digits = policy.address(class.leaf);
-    let mut waypoints = Vec::with_capacity(alloc, digits.len() + 1)?;
+    let mut path_nodes = Vec::with_capacity(alloc, digits.len() + 1)?;
     let mut node = 0;
     for digit in digits {
         let child = policy.child(node, *digit);
-        waypoints.push(waypoint_at(policy, node, policy.attrs(child)))?;
+        path_nodes.push(path_node_at(policy, node, policy.attrs(child)))?;
         node = child;
     }
-    waypoints.push(waypoint_at(policy, node, class.marks))?;
-    Ok(waypoints)
+    path_nodes.push(path_node_at(policy, node, class.marks))?;
+    Ok(path_nodes)
 }
 
 /// Returns what the events of a class need. The error means out of memory.
@@ -118,7 +118,7 @@ fn class_path<'a>(
         limit: policy.limits(class.leaf).packets,
         group: policy.group(class.leaf),
         digits: policy.address(class.leaf),
-        nodes: waypoints_of(alloc, policy, class)?,
+        nodes: path_nodes_of(alloc, policy, class)?,
     })
 }
 

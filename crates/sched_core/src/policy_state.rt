@@ -29,7 +29,7 @@ use tree_core::Taken;
 /// written to `leaver`, so that no blank packet is made for it.
 #[derive(Drop)]
 pub struct PolicyState<'a> {
-    stations: NodeStates<'a>,
+    node_states: NodeStates<'a>,
     held: Held,
     filled: Vec<u64>,
     totals: Option<Vec<NodeTotals>>,
@@ -37,7 +37,7 @@ pub struct PolicyState<'a> {
     pushes: u64,
     departures: u64,
     leaver: Packet,
-    ghost room: { (n : ℕ) (p : Known) → held_at held n ≡ Some p → HasFlowRoom stations p } by { Prim.hlevel props },
+    ghost room: { (n : ℕ) (p : Known) → held_at held n ≡ Some p → HasFlowRoom node_states p } by { Prim.hlevel props },
 }
 
 impl<'a> PolicyState<'a> {
@@ -51,7 +51,7 @@ impl<'a> PolicyState<'a> {
         ensures departures { IfOk result (λ own. own.departures ≡ 0) }
     {
         Ok(PolicyState {
-            stations: NodeStates::new(alloc, policy)?,
+            node_states: NodeStates::new(alloc, policy)?,
             held: Held::new(alloc),
             filled: vec![in alloc; 0; policy.count() as usize]?,
             totals: totals_of(alloc, policy)?,
@@ -68,7 +68,7 @@ impl<'a> PolicyState<'a> {
         requires known { IsKnown (policy_in self.now) packet.now }
         ensures address { result.now ≡ (class_of (policy_in self.now) packet.now).leaf }
     {
-        self.stations.path(packet).digits
+        self.node_states.path(packet).digits
     }
 
     /// Returns whether a packet would pass a limit on the path to the leaf of its class.
@@ -80,13 +80,13 @@ impl<'a> PolicyState<'a> {
     {
         match &self.totals {
             None => {
-                let path = self.stations.path(packet);
+                let path = self.node_states.path(packet);
                 match path.limit {
                     None => false,
                     Some(limit) => u64::from(limit) == self.filled[path.leaf as usize],
                 }
             }
-            Some(totals) => passes_limits(totals.as_slice(), &self.stations, packet),
+            Some(totals) => passes_limits(totals.as_slice(), &self.node_states, packet),
         }
     }
 
@@ -102,7 +102,7 @@ impl<'a> PolicyState<'a> {
         ensures policy { policy_in self.new ≡ policy_in self.old }
     {
         self.moment = self.moment.max(packet.moment);
-        self.stations.path(packet).leaf
+        self.node_states.path(packet).leaf
     }
 
     /// Takes in a packet: the push steps run on its path, and `trace` gets the digits and the
@@ -122,17 +122,17 @@ impl<'a> PolicyState<'a> {
             1 else self.old.pushes) self.old.departures }
         ensures policy { policy_in self.new ≡ policy_in self.old }
     {
-        let leaf = self.stations.path(packet).leaf;
-        self.stations.reserve(packet)?;
+        let leaf = self.node_states.path(packet).leaf;
+        self.node_states.reserve(packet)?;
         if self.totals.is_some() {
-            reserve_totals(&mut self.totals, &self.stations, packet)?;
+            reserve_totals(&mut self.totals, &self.node_states, packet)?;
         }
         self.held.put(packet)?;
         let moment = self.moment.max(packet.moment);
-        self.stations.push_steps(packet, moment, trace);
+        self.node_states.push_steps(packet, moment, trace);
         self.moment = moment;
         if self.totals.is_some() {
-            add_to_totals(&mut self.totals, &self.stations, packet);
+            add_to_totals(&mut self.totals, &self.node_states, packet);
         }
         self.filled[leaf as usize] += 1;
         self.pushes += 1;
@@ -159,11 +159,11 @@ impl<'a> PolicyState<'a> {
         if !self.held.take(number, &mut self.leaver) {
             unreachable!()
         }
-        let leaf = self.stations.path(&self.leaver).leaf;
-        self.stations
+        let leaf = self.node_states.path(&self.leaver).leaf;
+        self.node_states
             .pop_steps(&self.leaver, digits, ranks, self.moment);
         if self.totals.is_some() {
-            take_from_totals(&mut self.totals, &self.stations, &self.leaver);
+            take_from_totals(&mut self.totals, &self.node_states, &self.leaver);
         }
         self.filled[leaf as usize] -= 1;
         Departed {

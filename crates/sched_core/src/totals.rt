@@ -117,15 +117,15 @@ pub fn totals_of(alloc: Global, policy: &Policy) -> Result<Option<Vec<NodeTotals
 }
 
 /// Returns whether a packet would pass a limit on its path.
-pub fn passes_limits(totals: &[NodeTotals], stations: &NodeStates, packet: &Packet) -> bool
-    requires known { IsKnown (policy_of stations.now) packet.now }
-    requires accepted { IsAccepted (policy_of stations.now) }
-    requires sized { length totals.now ≡ nodes (policy_of stations.now).tree }
-    ensures passes { (values : Values) → AreTotals (policy_of stations.now) totals.now values →
-        result ≡ list_any (passes_on (policy_of stations.now) values packet.now)
-        (way_to (class_of (policy_of stations.now) packet.now).leaf) }
+pub fn passes_limits(totals: &[NodeTotals], node_states: &NodeStates, packet: &Packet) -> bool
+    requires known { IsKnown (policy_of node_states.now) packet.now }
+    requires accepted { IsAccepted (policy_of node_states.now) }
+    requires sized { length totals.now ≡ nodes (policy_of node_states.now).tree }
+    ensures passes { (values : Values) → AreTotals (policy_of node_states.now) totals.now values →
+        result ≡ list_any (passes_on (policy_of node_states.now) values packet.now)
+        (way_to (class_of (policy_of node_states.now) packet.now).leaf) }
 {
-    passes_along(totals, stations.path(packet).nodes.as_slice(), packet)
+    passes_along(totals, node_states.path(packet).nodes.as_slice(), packet)
 }
 
 /// Makes room for a packet at each node on its path. The error means out of memory. Policies whose
@@ -133,21 +133,21 @@ pub fn passes_limits(totals: &[NodeTotals], stations: &NodeStates, packet: &Pack
 #[inline(never)]
 pub fn reserve_totals(
     totals: &mut Option<Vec<NodeTotals>>,
-    stations: &NodeStates,
+    node_states: &NodeStates,
     packet: &Packet,
 ) -> Result<(), AllocError>
-    requires known { IsKnown (policy_of stations.now) packet.now }
-    requires accepted { IsAccepted (policy_of stations.now) }
-    requires sized { AreSized (policy_of stations.now) totals.old }
-    ensures room { OnOk result (HasTotalsRoom (policy_of stations.now) packet.now totals.new) }
-    ensures kept { (values : Values) → AreKept (policy_of stations.now) totals.old values →
-        AreKept (policy_of stations.now) totals.new values }
+    requires known { IsKnown (policy_of node_states.now) packet.now }
+    requires accepted { IsAccepted (policy_of node_states.now) }
+    requires sized { AreSized (policy_of node_states.now) totals.old }
+    ensures room { OnOk result (HasTotalsRoom (policy_of node_states.now) packet.now totals.new) }
+    ensures kept { (values : Values) → AreKept (policy_of node_states.now) totals.old values →
+        AreKept (policy_of node_states.now) totals.new values }
 {
     match totals {
         None => Ok(()),
         Some(nodes) => reserve_along(
             nodes.as_mut_slice(),
-            stations.path(packet).nodes.as_slice(),
+            node_states.path(packet).nodes.as_slice(),
             packet,
         ),
     }
@@ -155,20 +155,24 @@ pub fn reserve_totals(
 
 /// Adds a packet at each node on its path, where there is room for it. Takes no memory.
 #[inline(never)]
-pub fn add_to_totals(totals: &mut Option<Vec<NodeTotals>>, stations: &NodeStates, packet: &Packet)
-    requires known { IsKnown (policy_of stations.now) packet.now }
-    requires accepted { IsAccepted (policy_of stations.now) }
-    requires sized { AreSized (policy_of stations.now) totals.old }
-    requires room { HasTotalsRoom (policy_of stations.now) packet.now totals.old }
-    ensures kept { (values : Values) → AreKept (policy_of stations.now) totals.old values →
-        AreFew values → AreKept (policy_of stations.now) totals.new (with_one_more
-        (policy_of stations.now) packet.now values) }
+pub fn add_to_totals(
+    totals: &mut Option<Vec<NodeTotals>>,
+    node_states: &NodeStates,
+    packet: &Packet,
+)
+    requires known { IsKnown (policy_of node_states.now) packet.now }
+    requires accepted { IsAccepted (policy_of node_states.now) }
+    requires sized { AreSized (policy_of node_states.now) totals.old }
+    requires room { HasTotalsRoom (policy_of node_states.now) packet.now totals.old }
+    ensures kept { (values : Values) → AreKept (policy_of node_states.now) totals.old values →
+        AreFew values → AreKept (policy_of node_states.now) totals.new (with_one_more
+        (policy_of node_states.now) packet.now values) }
 {
     match totals {
         None => (),
         Some(nodes) => add_along(
             nodes.as_mut_slice(),
-            stations.path(packet).nodes.as_slice(),
+            node_states.path(packet).nodes.as_slice(),
             packet,
         ),
     }
@@ -178,21 +182,21 @@ pub fn add_to_totals(totals: &mut Option<Vec<NodeTotals>>, stations: &NodeStates
 #[inline(never)]
 pub fn take_from_totals(
     totals: &mut Option<Vec<NodeTotals>>,
-    stations: &NodeStates,
+    node_states: &NodeStates,
     packet: &Packet,
 )
-    requires known { IsKnown (policy_of stations.now) packet.now }
-    requires accepted { IsAccepted (policy_of stations.now) }
-    requires sized { AreSized (policy_of stations.now) totals.old }
-    ensures kept { (values : Values) → AreKept (policy_of stations.now) totals.old values →
-        AreKept (policy_of stations.now) totals.new (with_one_fewer
-        (policy_of stations.now) packet.now values) }
+    requires known { IsKnown (policy_of node_states.now) packet.now }
+    requires accepted { IsAccepted (policy_of node_states.now) }
+    requires sized { AreSized (policy_of node_states.now) totals.old }
+    ensures kept { (values : Values) → AreKept (policy_of node_states.now) totals.old values →
+        AreKept (policy_of node_states.now) totals.new (with_one_fewer
+        (policy_of node_states.now) packet.now values) }
 {
     match totals {
         None => (),
         Some(nodes) => take_along(
             nodes.as_mut_slice(),
-            stations.path(packet).nodes.as_slice(),
+            node_states.path(packet).nodes.as_slice(),
             packet,
         ),
     }

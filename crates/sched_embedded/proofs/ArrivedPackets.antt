@@ -1,14 +1,14 @@
--- The source tree and its spills after a packet's lifted ranks were pushed into the fabric along the packet's lane.
+-- The source tree and its spills after a packet's lifted ranks were pushed into the fabric along the packet's lifted path.
 use Rattle.sched_embedded.proofs.Prelude.{ℕ, ◌∙◌, ap, ◌≡◌, subst, List, length, Option, Family, push_along, spills_along, SameQueues, IsGoodMap, image_map, IsLift, lift_ranks, LiftedPath, push_spills, raised, Packet, Policy, SourceState, class_of, arrival_ranks, SourceTree, push, Way, Laid, HoldsLift}
 use Rattle.sched_embedded.proofs.LiftMoves.{pushed, spilled}
-use Rattle.sched_embedded.proofs.PushedLanes.{HasLane}
+use Rattle.sched_embedded.proofs.PushedPaths.{HasLiftedPath}
 
 module _ (policy : Policy) (p : Packet) (s : SourceState) (l : Laid) (good : IsGoodMap (length l.arities) l.images) (before : Family) (held : HoldsLift l before s.tree)
-    (lane : LiftedPath) (way : Way) (has : HasLane l lane way) (digits : way.digits ≡ (class_of policy p).leaf) (ranks : way.ranks ≡ arrival_ranks policy p s)
-    (at given : List ℕ) (image : at ≡ lane.image.items) (lifted : given ≡ lift_ranks l.images way.digits way.ranks)
+    (lifted : LiftedPath) (way : Way) (has : HasLiftedPath l lifted way) (digits : way.digits ≡ (class_of policy p).leaf) (ranks : way.ranks ≡ arrival_ranks policy p s)
+    (at given : List ℕ) (image : at ≡ lifted.image.items) (lifted : given ≡ lift_ranks l.images way.digits way.ranks)
   where
     at-image : at ≡ image_map l.images way.digits
-    at-image = image ∙ has.lane_leads.image
+    at-image = image ∙ has.path_leads.image
 
     pub arrived-tree : (after : Family) → SameQueues after (push_along at given p.number before) → IsLift (push s.tree (class_of policy p).leaf (arrival_ranks policy p s) p.number) (image_map l.images) after
     arrived-tree after same =

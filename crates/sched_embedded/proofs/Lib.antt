@@ -3,8 +3,8 @@ pub mod MapShapes
 pub mod LowRanks
 pub mod LiftMoves
 pub mod DepartedPackets
-pub mod ClassLanes
-pub mod PushedLanes
+pub mod ClassPaths
+pub mod PushedPaths
 pub mod ArrivedPackets
 pub mod QueuedTotals
 pub mod FivePoints

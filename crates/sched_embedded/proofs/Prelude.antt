@@ -4,7 +4,7 @@ pub use Rattle.std.proofs.lemmas.List.{length-map, get_or-map, length-append, wi
 pub use Rattle.std.specs.List.{AllByRecursion, Contains}
 pub use Rattle.std.specs.Option.{option_map_or}
 pub use Rattle.std.specs.Prelude.{slice_get, slice_index, IfSome, option_map, unwrap_or}
-pub use Rattle.embed_core.specs.Lanes.{IsLaneTo, AreLeafLanes}
+pub use Rattle.embed_core.specs.LiftedPaths.{IsLiftedPathTo, AreLeafPaths}
 pub use Rattle.embed_core.specs.Picks.{IsLeafImage}
 pub use Rattle.embed_core.specs.declared.lifted_path.LiftedPath.{LiftedPath}
 pub use Rattle.embed_defs.specs.Family.{Family, AreRanks, IsLeafAddress, Pops, push_along, IsEmpty, SameQueues, pop_along}
@@ -27,4 +27,4 @@ pub use Rattle.tree_defs.specs.Queue.{Queue}
 pub use Rattle.tree_defs.specs.SourceTree.{SourceTree, empty_tree, pop, push, size}
 pub use Rattle.tree_defs.specs.Topology.{topology_of, IsWithin, Topology, complete, topologies_of}
 pub use Rattle.tree_defs.specs.Tree.{Address, Tree, LeadsToLeaf, Trees, inner, leaf, more, none, SameShape, root_of, IsAddressOf, Popping, depth}
-pub use Rattle.sched_embedded.specs.Laid.{Laid, HoldsLift, IsLaid, PopsTo, leaf_of, HasLanes}
+pub use Rattle.sched_embedded.specs.Laid.{Laid, HoldsLift, IsLaid, PopsTo, leaf_of, HasLiftedPaths}

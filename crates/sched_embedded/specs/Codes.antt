@@ -1,5 +1,5 @@
 -- How a tree laid into a target is stored as a ghost value. All proofs that two topologies are
--- equal are equal, and so are all proofs of where lanes and images lead.
+-- equal are equal, and so are all proofs of where lifted paths and images lead.
 use Rattle.std.specs.Prelude.{◌≡◌, ℕ, List, [], ◌∷◌, refl}
 use Rattle.std.specs.Coded.{Coded, Coded-set, code_by, coded×, coded_ℕ, coded_list, Unit-prop, le_prop}
 use base.Stored.{coded_unit}
@@ -9,9 +9,9 @@ use Rattle.tree_defs.specs.Codes.{tree_code}
 use Rattle.embed_defs.specs.Family.{IsLeafAddress}
 use Rattle.embed_defs.specs.Images.{image_map}
 use Rattle.embed_core.specs.declared.lifted_path.LiftedPath.{LiftedPath}
-use Rattle.embed_core.specs.Lanes.{IsLaneTo}
+use Rattle.embed_core.specs.LiftedPaths.{IsLiftedPathTo}
 use Rattle.policy_defs.specs.Policy.{Policy}
-use Rattle.sched_embedded.specs.Laid.{Laid, HasLanes, MapsToLeaves, leaf_of}
+use Rattle.sched_embedded.specs.Laid.{Laid, HasLiftedPaths, MapsToLeaves, leaf_of}
 
 abbrev pub laid_code : Coded Laid
 laid_code = code_by (Tree Address × List ℕ) (coded× (tree_code (coded_list coded_ℕ)) (coded_list coded_ℕ)) (λ l. (l.images, l.arities)) (λ p. record { images = p.0; arities = p.1 }) (λ _. refl)
@@ -19,8 +19,8 @@ laid_code = code_by (Tree Address × List ℕ) (coded× (tree_code (coded_list c
 pub one_way_to_be_the_same : (t u : Topology) → IsProp (t ≡ u)
 one_way_to_be_the_same t u = Coded-set (tree_code coded_unit) t u
 
-IsLaneTo-prop : (images : Tree Address) (address : Address) (lane : LiftedPath) → IsProp (IsLaneTo images address lane)
-IsLaneTo-prop images address lane a b i = record {
+IsLiftedPathTo-prop : (images : Tree Address) (address : Address) (lifted : LiftedPath) → IsProp (IsLiftedPathTo images address lifted)
+IsLiftedPathTo-prop images address lifted a b i = record {
   image = Coded-set (coded_list coded_ℕ) _ _ a.image b.image i;
   long = Coded-set coded_ℕ _ _ a.long b.long i;
   steps = Coded-set (coded_list coded_ℕ) _ _ a.steps b.steps i;
@@ -28,10 +28,10 @@ IsLaneTo-prop images address lane a b i = record {
   depths = Coded-set (coded_list coded_ℕ) _ _ a.depths b.depths i;
 }
 
-pub one_way_to_have_lanes : (images : Tree Address) (policy : Policy) (lanes : List LiftedPath) → IsProp (HasLanes images policy lanes)
-one_way_to_have_lanes images policy lanes a b i = record {
+pub one_way_to_have_lifted_paths : (images : Tree Address) (policy : Policy) (lifted_paths : List LiftedPath) → IsProp (HasLiftedPaths images policy lifted_paths)
+one_way_to_have_lifted_paths images policy lifted_paths a b i = record {
   whole = Coded-set coded_ℕ _ _ a.whole b.whole i;
-  each = λ n lane at. IsLaneTo-prop images (leaf_of policy n) lane (a.each n lane at) (b.each n lane at) i;
+  each = λ n lifted at. IsLiftedPathTo-prop images (leaf_of policy n) lifted (a.each n lifted at) (b.each n lifted at) i;
 }
 
 IsLeafAddress-prop : (arities : List ℕ) (a : Address) → IsProp (IsLeafAddress arities a)

@@ -63,7 +63,7 @@ pub record KeepsCounts {F : Type 0} (fabrics : Ghosts F) (old new : F) : Type 0 
 -- ---- five points
 -- the node states, the queued packets and the latest timestamp
 pub record IsKept (own : PolicyState) (s : SourceState) : Type 0 where
-  pub nodes : AreStates own.stations s.nodes
+  pub nodes : AreStates own.node_states s.nodes
   pub held : (n : ℕ) → held_at own.held n ≡ s.held n
   pub now : s.now ≡ own.moment
 

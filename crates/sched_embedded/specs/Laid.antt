@@ -8,7 +8,7 @@ use Rattle.embed_defs.specs.Images.{image_map}
 use Rattle.embed_defs.specs.Lift.{IsLift}
 use Rattle.embed_defs.specs.GoodMaps.{IsGoodMap}
 use Rattle.embed_core.specs.declared.lifted_path.LiftedPath.{LiftedPath}
-use Rattle.embed_core.specs.Lanes.{IsLaneTo}
+use Rattle.embed_core.specs.LiftedPaths.{IsLiftedPathTo}
 use Rattle.policy_defs.specs.Policy.{Policy, class_at, no_marks}
 
 -- the image of each node, and the complete tree's arities from the root down
@@ -29,10 +29,10 @@ MapsToLeaves images arities = (a : Address) → LeadsToLeaf images a → IsLeafA
 abbrev pub leaf_of : Policy → ℕ → Address
 leaf_of policy n = (unwrap_or (class_at policy n) (record { marks = no_marks; leaf = [] })).leaf
 
--- a lane to the leaf of each class
-pub record HasLanes (images : Tree Address) (policy : Policy) (lanes : List LiftedPath) : Type 0 where
-  pub whole : length lanes ≡ length policy.classes
-  pub each : (n : ℕ) (lane : LiftedPath) → slice_get lanes n ≡ Some lane → IsLaneTo images (leaf_of policy n) lane
+-- a lifted path to the leaf of each class
+pub record HasLiftedPaths (images : Tree Address) (policy : Policy) (lifted_paths : List LiftedPath) : Type 0 where
+  pub whole : length lifted_paths ≡ length policy.classes
+  pub each : (n : ℕ) (lifted : LiftedPath) → slice_get lifted_paths n ≡ Some lifted → IsLiftedPathTo images (leaf_of policy n) lifted
 
 -- room for the digits and the ranks on the path to a leaf
 pub record HasRoomForOne (images : Tree Address) (arities : List ℕ) (digits ranks : ℕ) : Type 0 where

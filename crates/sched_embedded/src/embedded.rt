@@ -3,10 +3,10 @@ ghost use Rattle.std.specs.Prelude.{◌≡◌, ◌^◌, ◌<◌, IfOk, OnErr};
 ghost use Rattle.tree_defs.specs.Tree.{SameShape};
 ghost use Rattle.tree_defs.specs.Topology.{topology_of};
 ghost use Rattle.embed_defs.specs.GoodMaps.{IsGoodMap};
-ghost use Rattle.sched_embedded.specs.Laid.{HasLanes, MapsToLeaves};
+ghost use Rattle.sched_embedded.specs.Laid.{HasLiftedPaths, MapsToLeaves};
 ghost use Rattle.sched_defs.specs.SourceState.{start};
 ghost use Rattle.sched_core.specs.PolicyState.{policy_in, CountsAre};
-ghost use Rattle.sched_embedded.specs.Codes.{one_way_to_be_the_same, one_way_to_have_lanes, one_way_to_map_to_leaves};
+ghost use Rattle.sched_embedded.specs.Codes.{one_way_to_be_the_same, one_way_to_have_lifted_paths, one_way_to_map_to_leaves};
 
 use crate::embedding::Embedding;
 use embed_core::{LiftedPath, Map};
@@ -24,12 +24,12 @@ use tree_core::Taken;
 pub struct Embedded<'a, F> {
     own: PolicyState<'a>,
     embedding: Embedding,
-    lanes: Vec<LiftedPath>,
+    lifted_paths: Vec<LiftedPath>,
     pushes_before: u64,
     pops_before: u64,
     fabric: PhantomData<F>,
     ghost few: { (pushes_before < 2 ^ 61) × (pops_before < 2 ^ 61) },
-    ghost lanes_lead: { HasLanes embedding.images (policy_in own) lanes.items } by { one_way_to_have_lanes embedding.images (policy_in own) lanes.items },
+    ghost paths_lead: { HasLiftedPaths embedding.images (policy_in own) lifted_paths.items } by { one_way_to_have_lifted_paths embedding.images (policy_in own) lifted_paths.items },
     ghost leaves: { MapsToLeaves embedding.images embedding.arities } by { one_way_to_map_to_leaves embedding.images embedding.arities },
     ghost shape: { topology_of (policy_in own).tree ≡ topology_of embedding.images } by { one_way_to_be_the_same (topology_of (policy_in own).tree) (topology_of embedding.images) },
 }
@@ -59,13 +59,13 @@ impl<'a, F: Fabric> Embedded<'a, F> {
         ensures counts { KeepsCounts F.Fabric fabric.old fabric.new }
     {
         let own = PolicyState::new(alloc, policy)?;
-        let lanes = class_lanes(alloc, policy, &map, target.arities.len())?;
-        let embedding = Embedding::new(alloc, map, &lanes, target)?;
+        let lifted_paths = class_paths(alloc, policy, &map, target.arities.len())?;
+        let embedding = Embedding::new(alloc, map, &lifted_paths, target)?;
         fabric.configure(embedding.arities())?;
         Ok(Embedded {
             own,
             embedding,
-            lanes,
+            lifted_paths,
             pushes_before: fabric.pushes(),
             pops_before: fabric.pops(),
             fabric: PhantomData,
@@ -73,8 +73,8 @@ impl<'a, F: Fabric> Embedded<'a, F> {
     }
 }
 
-/// Returns the lane to the leaf of each class. The error means out of memory.
-fn class_lanes(
+/// Returns the lifted path to the leaf of each class. The error means out of memory.
+fn class_paths(
     alloc: Global,
     policy: &Policy,
     map: &Map,
@@ -82,13 +82,13 @@ fn class_lanes(
 ) -> Result<Vec<LiftedPath>, AllocError>
     requires good { IsGoodMap height map.now }
     requires shape { SameShape (topology_of policy.now.policy.tree) map.now }
-    ensures lanes { IfOk result (λ v. HasLanes map.now policy.now.policy v.items) }
+    ensures lifted_paths { IfOk result (λ v. HasLiftedPaths map.now policy.now.policy v.items) }
 {
-    let mut lanes = Vec::new(alloc);
+    let mut lifted_paths = Vec::new(alloc);
     for class in policy.classes() {
-        lanes.push(LiftedPath::to(alloc, map, policy.address(class.leaf), height)?)?;
+        lifted_paths.push(LiftedPath::to(alloc, map, policy.address(class.leaf), height)?)?;
     }
-    Ok(lanes)
+    Ok(lifted_paths)
 }
 
 impl<'a, F: Fabric> Scheduler for Embedded<'a, F> {
@@ -119,12 +119,12 @@ impl<'a, F: Fabric> Scheduler for Embedded<'a, F> {
         if self.own.is_full(packet) {
             return Ok(Arrival::Dropped(self.own.drop_packet(packet)));
         }
-        let lane = &self.lanes[packet.class as usize];
-        under.reserve(&lane.image)?;
+        let lifted = &self.lifted_paths[packet.class as usize];
+        under.reserve(&lifted.image)?;
         let leaf = self.own.admit(packet, trace)?;
         let embedding = &mut self.embedding;
-        lane.lift(trace.ranks(), &mut embedding.ranks);
-        under.push(&lane.image, &embedding.ranks, packet.number);
+        lifted.lift(trace.ranks(), &mut embedding.ranks);
+        under.push(&lifted.image, &embedding.ranks, packet.number);
         Ok(Arrival::Pushed(leaf))
     }
 
@@ -136,7 +136,13 @@ impl<'a, F: Fabric> Scheduler for Embedded<'a, F> {
             return None;
         };
         let (table, map) = (&embedding.table, &embedding.map);
-        table.pick(map, &self.lanes, &embedding.digits, &embedding.ranks, trace);
+        table.pick(
+            map,
+            &self.lifted_paths,
+            &embedding.digits,
+            &embedding.ranks,
+            trace,
+        );
         Some(self.own.release(number, trace.digits(), trace.ranks()))
     }
 

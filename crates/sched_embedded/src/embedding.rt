@@ -34,12 +34,12 @@ impl Model for Embedding {
 }
 
 impl Embedding {
-    /// Returns an embedding of this map in a target, with a table of these lanes. The error means
-    /// out of memory.
+    /// Returns an embedding of this map in a target, with a table of these lifted paths. The error
+    /// means out of memory.
     pub fn new(
         alloc: Global,
         map: Map,
-        lanes: &[LiftedPath],
+        lifted_paths: &[LiftedPath],
         target: &Target,
     ) -> Result<Embedding, AllocError>
         requires laid { IsLaid map target.now.arities }
@@ -47,7 +47,7 @@ impl Embedding {
         ensures arities { IfOk result (λ e. e.arities ≡ target.now.arities) }
     {
         let arities = target.arities.as_slice().to_vec(alloc)?;
-        let table = LeafTable::new(alloc, &arities, lanes)?;
+        let table = LeafTable::new(alloc, &arities, lifted_paths)?;
         let digits = vec![in alloc; 0; arities.len()]?;
         let ranks = vec![in alloc; 0; arities.len() + 1]?;
         Ok(Embedding {

@@ -7,7 +7,7 @@ pub use Rattle.std.proofs.lemmas.Result.{on_ok_weaker}
 pub use Rattle.std.specs.List.{range_with_len, AllByRecursion, sum_by, list_any}
 pub use Rattle.std.specs.Option.{option_map_or, ForSome}
 pub use Rattle.std.specs.Prelude.{slice_get, option_map, Vec, unwrap_or, slice_index, nat_eq}
-pub use Rattle.embed_core.proofs.LaneLifts.{lane-lift, lane-within}
+pub use Rattle.embed_core.proofs.LaneLifts.{hops-lift, hops-within}
 pub use Rattle.embed_defs.specs.Images.{image_map, image_at}
 pub use Rattle.embed_defs.specs.Lift.{lift_ranks}
 pub use Rattle.policy_core.specs.Numbering.{address_at, HasAt}
@@ -20,7 +20,7 @@ pub use Rattle.tree_defs.proofs.TopologyLaws.{after-append, after-is}
 pub use Rattle.tree_defs.specs.Queue.{Queue, Entry, Taking, put, take_least, sooner, take_from}
 pub use Rattle.tree_defs.specs.Topology.{after, IsPrefixOf, Topology, topologies_of, topology_of}
 pub use Rattle.tree_defs.specs.Tree.{Address, Tree, nodes, option_bind, IsAddressOf, LeadsToLeaf, Popping, SameShape, Trees, inner, leaf, more, none, root_of, subtree, subtree_in}
-pub use Rattle.size_core.specs.Hops.{Uses, Watched, passed_at, popped_along, pushed_along, rank_on, value_on, Lanes, lanes_in, popped_at, pushed_at, watched_all, AreInside, watched}
+pub use Rattle.size_core.specs.Hops.{Uses, Watched, passed_at, popped_along, pushed_along, rank_on, value_on, ClassHops, class_hops_in, popped_at, pushed_at, watched_all, AreInside, watched}
 pub use Rattle.size_core.specs.Limits.{first_of, is_wide, passes}
 pub use Rattle.size_core.specs.Memory.{queue_bits}
 pub use Rattle.size_core.specs.Names.{IsServed, IsImage}
@@ -30,7 +30,7 @@ pub use Rattle.size_core.specs.Results.{figures_of, lines_of, AreUnused, line_wi
 pub use Rattle.size_core.specs.Sizes.{Line, IsNameAt, Sized, line_of, unused_at, AreSizesOf, Crossing, IsSizeOf, crossing_along, entry_at, is_on, line_address, with_pushes, HasImage, crossing_at, crossing_of, no_sizes, pop_sized, push_sized, sized, sized_all, sizes_after, stores_at}
 pub use Rattle.size_core.specs.Stores.{flow_of, store_popped, Stores, head_in, leads, store_pushed, heads_in, last_rank, flow_popped, flow_pushed, with_flow, with_spill}
 pub use Rattle.size_core.specs.Use.{Use, pushed, popped, spread, highest, lowest_from, taken, unused}
-pub use Rattle.size_core.specs.Watching.{Has, HaveUses, IsCrest, Follows, Watches, WatchesAll, lanes_of}
+pub use Rattle.size_core.specs.Watching.{Has, HaveUses, IsCrest, Follows, Watches, WatchesAll, class_hops_of}
 pub use Rattle.size_core.specs.declared.hop.Hop.{Hop}
 pub use Rattle.size_core.specs.declared.limits.Limits.{Limits}
 pub use Rattle.size_core.specs.declared.limits.Passed.{Passed}

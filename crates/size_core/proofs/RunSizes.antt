@@ -1,5 +1,5 @@
 -- The results of a sizing of a run are the sizes of the run's outcomes.
-use Rattle.size_core.proofs.Prelude.{◌≡◌, ◌∙◌, ℕ, length, sym, ap, List, arith, subst, ◌+◌, ◌<◌, ◌≤◌, IfSome, Some, [], refl, ◌∷◌, Option, ◌++◌, suc, None, zero, map, Bool, false, true, inl, inr, nat_lt, ◌≢◌, if◌then◌else◌, ◌==◌, ◌⊎◌, ◌*◌, option_map_or, slice_get, option_map, Vec, unwrap_or, slice_index, image_map, lift_ranks, Policy, sound_start, popped_is_held, sound_arrived, sound_departed, outcomes, Arrive, CanMake, Depart, Event, Outcome, departure, outcome, start, Leaver, SourceState, arrival_ranks, arrived, class_of, departed, dropped, is_full, leaver, leaving, left_from, left_with, Laid, leaf_of, Address, option_bind, Popping, Uses, Watched, popped_along, pushed_along, Lanes, lanes_in, watched_all, watched, first_of, address_in, Keys, IsOnce, IsPathTo, crossing_in, Sized, Crossing, crossing_along, entry_at, is_on, pop_sized, push_sized, sized, sized_all, Use, pushed, popped, Hop, Limits}
+use Rattle.size_core.proofs.Prelude.{◌≡◌, ◌∙◌, ℕ, length, sym, ap, List, arith, subst, ◌+◌, ◌<◌, ◌≤◌, IfSome, Some, [], refl, ◌∷◌, Option, ◌++◌, suc, None, zero, map, Bool, false, true, inl, inr, nat_lt, ◌≢◌, if◌then◌else◌, ◌==◌, ◌⊎◌, ◌*◌, option_map_or, slice_get, option_map, Vec, unwrap_or, slice_index, image_map, lift_ranks, Policy, sound_start, popped_is_held, sound_arrived, sound_departed, outcomes, Arrive, CanMake, Depart, Event, Outcome, departure, outcome, start, Leaver, SourceState, arrival_ranks, arrived, class_of, departed, dropped, is_full, leaver, leaving, left_from, left_with, Laid, leaf_of, Address, option_bind, Popping, Uses, Watched, popped_along, pushed_along, ClassHops, class_hops_in, watched_all, watched, first_of, address_in, Keys, IsOnce, IsPathTo, crossing_in, Sized, Crossing, crossing_along, entry_at, is_on, pop_sized, push_sized, sized, sized_all, Use, pushed, popped, Hop, Limits}
 use Rattle.std.proofs.Common.{Global}
 use Rattle.tree_defs.specs.SourceTree.{SourceTree, pop}
 use Rattle.packet_defs.specs.declared.packet.Packet.{Packet}
@@ -53,21 +53,21 @@ pub record Matches (known : Keys) (s : Watched) (t : Sized) : Type 0 where
   pub others : (b : Address) → ((i : ℕ) × (address_in known i ≡ Some b)) ⊎ ((t.uses b).pushes ≡ 0)
   pub crossing : option_map (crossing_in known) s.passed ≡ t.crossing
 
-module _ (known : Keys) (once : IsOnce known) (l : Laid) (policy : Policy) (limits : Limits) (lanes : Lanes) (paths : (n : ℕ) → n < length policy.classes → IsPathTo known l.images (leaf_of policy n) (lanes n)) where
+module _ (known : Keys) (once : IsOnce known) (l : Laid) (policy : Policy) (limits : Limits) (class_hops : ClassHops) (paths : (n : ℕ) → n < length policy.classes → IsPathTo known l.images (leaf_of policy n) (class_hops n)) where
   path : (n : ℕ) → Address
   path n = image_map l.images (leaf_of policy n)
 
   matches_push : (event : ℕ) (p : Packet) (ranks : List ℕ) (s : Watched) (t : Sized) → p.class < length policy.classes → length ranks ≡ length (leaf_of policy p.class) + 1 → Matches known s t
-      → Matches known (pushed_along limits event p.number ranks (lanes p.class) s) (push_sized limits event p.number (image_map l.images (leaf_of policy p.class)) (lift_ranks l.images (leaf_of policy p.class) ranks) t)
+      → Matches known (pushed_along limits event p.number ranks (class_hops p.class) s) (push_sized limits event p.number (image_map l.images (leaf_of policy p.class)) (lift_ranks l.images (leaf_of policy p.class) ranks) t)
   matches_push event p ranks s t class long m =
       let a = image_map l.images (leaf_of policy p.class) in
       let rs = lift_ranks l.images (leaf_of policy p.class) ranks in
       let to = paths p.class class in
-      let way : Leads known ranks [] a rs (lanes p.class) = subst (λ (z : List ℕ). Leads known ranks [] a z (lanes p.class)) (to.lifts ranks long) (leads known ranks a to.steps (lanes p.class) to.path) in
+      let way : Leads known ranks [] a rs (class_hops p.class) = subst (λ (z : List ℕ). Leads known ranks [] a z (class_hops p.class)) (to.lifts ranks long) (leads known ranks a to.steps (class_hops p.class) to.path) in
       record {
-        uses = λ i b e. uses_pushed known once limits event p.number ranks b i e [] a rs (lanes p.class) s way ∙ ap (λ (u : Use). Push (entry_at a rs p.number b) u) (m.uses i b e);
-        others = λ b. by_test a rs b (is_on a b) refl (m.others b) (on_path known ranks [] a rs (lanes p.class) way b);
-        crossing = passed_pushed known once limits event p.number ranks t.uses [] a rs (lanes p.class) s way (λ i c d is e. m.uses i c is)
+        uses = λ i b e. uses_pushed known once limits event p.number ranks b i e [] a rs (class_hops p.class) s way ∙ ap (λ (u : Use). Push (entry_at a rs p.number b) u) (m.uses i b e);
+        others = λ b. by_test a rs b (is_on a b) refl (m.others b) (on_path known ranks [] a rs (class_hops p.class) way b);
+        crossing = passed_pushed known once limits event p.number ranks t.uses [] a rs (class_hops p.class) s way (λ i c d is e. m.uses i c is)
             ∙ ap (λ (o : Option Crossing). first_of o (crossing_along limits event p.number [] a rs t.uses)) m.crossing;
       }
     where
@@ -78,15 +78,15 @@ module _ (known : Keys) (once : IsOnce known) (l : Laid) (policy : Policy) (limi
       by_test a rs b false e (inr none) found = inr (ap (λ o. (Push o (t.uses b)).pushes) (off_path a rs p.number b e) ∙ none)
 
   matches_pop : (p : Packet) (s : Watched) (t : Sized) → p.class < length policy.classes → Matches known s t
-      → Matches known (popped_along (lanes p.class) s) (pop_sized (image_map l.images (leaf_of policy p.class)) t)
+      → Matches known (popped_along (class_hops p.class) s) (pop_sized (image_map l.images (leaf_of policy p.class)) t)
   matches_pop p s t class m =
       let a = image_map l.images (leaf_of policy p.class) in
       let to = paths p.class class in
-      let way : Leads known [] [] a (map (slice_index []) to.steps) (lanes p.class) = leads known [] a to.steps (lanes p.class) to.path in
+      let way : Leads known [] [] a (map (slice_index []) to.steps) (class_hops p.class) = leads known [] a to.steps (class_hops p.class) to.path in
       record {
-        uses = λ i b e. uses_popped known once [] b i e [] a (map (slice_index []) to.steps) (lanes p.class) s way ∙ ap (λ (u : Use). if is_on a b then popped u else u) (m.uses i b e);
+        uses = λ i b e. uses_popped known once [] b i e [] a (map (slice_index []) to.steps) (class_hops p.class) s way ∙ ap (λ (u : Use). if is_on a b then popped u else u) (m.uses i b e);
         others = λ b. by_test (is_on a b) (t.uses b) b (m.others b);
-        crossing = ap (λ o. option_map (crossing_in known) o) (passed_popped (lanes p.class) s) ∙ m.crossing;
+        crossing = ap (λ o. option_map (crossing_in known) o) (passed_popped (class_hops p.class) s) ∙ m.crossing;
       }
     where
       by_test : (on : Bool) (u : Use) (b : Address) → ((i : ℕ) × (address_in known i ≡ Some b)) ⊎ (u.pushes ≡ 0) → ((i : ℕ) × (address_in known i ≡ Some b)) ⊎ ((if on then popped u else u).pushes ≡ 0)
@@ -94,12 +94,12 @@ module _ (known : Keys) (once : IsOnce known) (l : Laid) (policy : Policy) (limi
       by_test true u b (inr none) = inr (ap (λ f. f.pushes) (figures-popped u) ∙ none)
       by_test false u b (inr none) = inr none
 
-  matches_one : (event : ℕ) (o : Outcome) (s : Watched) (t : Sized) → IsFine policy o → Matches known s t → Matches known (watched limits lanes event o s) (sized l policy limits event o t)
+  matches_one : (event : ℕ) (o : Outcome) (s : Watched) (t : Sized) → IsFine policy o → Matches known s t → Matches known (watched limits class_hops event o s) (sized l policy limits event o t)
   matches_one event (run.Arrived p a ranks) s t fine m = matches_push event p ranks s t fine.0 fine.1 m
   matches_one event (run.Departed p a ranks start) s t fine m = matches_pop p s t fine m
   matches_one event (run.Dropped p a) s t fine m = m
   matches_one event run.Empty s t fine m = m
 
-  pub matches_all : (event : ℕ) (os : List Outcome) (s : Watched) (t : Sized) → AreFine policy os → Matches known s t → Matches known (watched_all limits lanes event os s) (sized_all l policy limits event os t)
+  pub matches_all : (event : ℕ) (os : List Outcome) (s : Watched) (t : Sized) → AreFine policy os → Matches known s t → Matches known (watched_all limits class_hops event os s) (sized_all l policy limits event os t)
   matches_all event [] s t fine m = m
-  matches_all event (o ∷ os) s t fine m = matches_all (event + 1) os (watched limits lanes event o s) (sized l policy limits event o t) fine.1 (matches_one event o s t fine.0 m)
+  matches_all event (o ∷ os) s t fine m = matches_all (event + 1) os (watched limits class_hops event o s) (sized l policy limits event o t) fine.1 (matches_one event o s t fine.0 m)

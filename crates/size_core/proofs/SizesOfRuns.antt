@@ -1,5 +1,5 @@
 -- The results of a sizing of a run, from the uses of its nodes.
-use Rattle.size_core.proofs.Prelude.{◌≡◌, ◌∙◌, ℕ, length, sym, ap, List, arith, subst, ◌+◌, ◌<◌, ◌≤◌, IfSome, Some, [], refl, ◌∷◌, Option, ◌++◌, suc, None, zero, map, Bool, inl, inr, ◌⊎◌, ◌*◌, slice_get, option_map, Vec, unwrap_or, Policy, sound_start, outcomes, start, Laid, leaf_of, Address, Watched, Lanes, lanes_in, watched_all, address_in, Keys, IsOnce, IsPathTo, addresses, places, figures_of, lines_of, AreUnused, line_with, crossing_in, name_in, HasSizes, IsUnused, Line, IsNameAt, Sized, line_of, unused_at, AreSizesOf, IsSizeOf, line_address, with_pushes, crossing_of, no_sizes, sizes_after, Use, Has, HaveUses, Watches, WatchesAll, lanes_of, Hop, Limits}
+use Rattle.size_core.proofs.Prelude.{◌≡◌, ◌∙◌, ℕ, length, sym, ap, List, arith, subst, ◌+◌, ◌<◌, ◌≤◌, IfSome, Some, [], refl, ◌∷◌, Option, ◌++◌, suc, None, zero, map, Bool, inl, inr, ◌⊎◌, ◌*◌, slice_get, option_map, Vec, unwrap_or, Policy, sound_start, outcomes, start, Laid, leaf_of, Address, Watched, ClassHops, class_hops_in, watched_all, address_in, Keys, IsOnce, IsPathTo, addresses, places, figures_of, lines_of, AreUnused, line_with, crossing_in, name_in, HasSizes, IsUnused, Line, IsNameAt, Sized, line_of, unused_at, AreSizesOf, IsSizeOf, line_address, with_pushes, crossing_of, no_sizes, sizes_after, Use, Has, HaveUses, Watches, WatchesAll, class_hops_of, Hop, Limits}
 use Rattle.std.proofs.Common.{Global}
 use Rattle.size_core.specs.declared.node.Node.{Node}
 use Rattle.size_core.specs.declared.size.Sizes as size
@@ -25,10 +25,10 @@ start_uses arities stores known nodes same unused i = by (address_in known i) re
     by None e = none_there known nodes i (λ n. Has n (unused_at arities stores (unwrap_or (address_in known i) []))) same e
     by (Some b) e = subst (λ (o : Option Address). IfSome (slice_get nodes i) (λ n. Has n (unused_at arities stores (unwrap_or o [])))) (sym e) (unused i b e)
 
-path_at : (lanes : List (Vec Hop Global)) (n : ℕ) (P : List Hop → Type 0) → n < length lanes → IfSome (slice_get lanes n) (λ v. P v.items) → P (lanes_in lanes n)
+path_at : (class_hops : List (Vec Hop Global)) (n : ℕ) (P : List Hop → Type 0) → n < length class_hops → IfSome (slice_get class_hops n) (λ v. P v.items) → P (class_hops_in class_hops n)
 path_at [] n P l h = absurd (omega (arith, l))
-path_at (v ∷ lanes) zero P l h = h
-path_at (v ∷ lanes) (suc n) P l h = path_at lanes n P (omega (arith, l)) h
+path_at (v ∷ class_hops) zero P l h = h
+path_at (v ∷ class_hops) (suc n) P l h = path_at class_hops n P (omega (arith, l)) h
 
 -- ---- the results
 module _ (l : Laid) (policy : Policy) (known : Keys) (names : List (Option (List ℕ))) (once : IsOnce known) (named : (i : ℕ) (b : Address) → address_in known i ≡ Some b → IsNameAt l policy b (name_in names i)) where
@@ -81,11 +81,11 @@ sizes_are_of_the_run l policy limits stores event events before after r accepted
     let nodes = before.queues.nodes.items in
     let s : Watched = record { uses = λ i. unused_at l.arities stores (unwrap_or (address_in known i) []); passed = None } in
     let first : Watches before s = record { nodes = start_uses l.arities stores known nodes unused.count unused.nodes; passed = unused.passed } in
-    let last = watched_all before.queues.limits (lanes_of before) event os s in
+    let last = watched_all before.queues.limits (class_hops_of before) event os s in
     let got : HasSizes after last r = has last (watches.uses s first) in
-    let paths : (n : ℕ) → n < length policy.classes → IsPathTo known l.images (leaf_of policy n) (lanes_of before n)
-    = λ n less. path_at before.lanes.items n (IsPathTo known l.images (leaf_of policy n)) (omega (arith, less, unused.lanes)) (unused.paths n) in
-    let matches = matches_all known unused.once l policy before.queues.limits (lanes_of before) paths event os s (no_sizes l.arities stores)
+    let paths : (n : ℕ) → n < length policy.classes → IsPathTo known l.images (leaf_of policy n) (class_hops_of before n)
+    = λ n less. path_at before.class_hops.items n (IsPathTo known l.images (leaf_of policy n)) (omega (arith, less, unused.class_hops)) (unused.paths n) in
+    let matches = matches_all known unused.once l policy before.queues.limits (class_hops_of before) paths event os s (no_sizes l.arities stores)
     (fine_run policy accepted events (start policy) (sound_start policy accepted) can)
     (record { uses = λ i b e. ap (λ o. unused_at l.arities stores (unwrap_or o [])) e; others = λ b. inr refl; crossing = refl }) in
     let count : length after.queues.nodes.items ≡ length known = watches.stays.count ∙ unused.count in

@@ -49,18 +49,18 @@ popped_along [] s = s
 popped_along (h ∷ hops) s = popped_along hops (popped_at h s)
 
 -- the path of each class's packets
-abbrev pub Lanes : Type 0
-Lanes = ℕ → List Hop
+abbrev pub ClassHops : Type 0
+ClassHops = ℕ → List Hop
 
-abbrev pub watched : Limits → Lanes → ℕ → run.Outcome → Watched → Watched
-watched limits lanes event (run.Arrived p a ranks) s = pushed_along limits event p.number ranks (lanes p.class) s
-watched limits lanes event (run.Departed p a ranks start) s = popped_along (lanes p.class) s
-watched limits lanes event (run.Dropped p a) s = s
-watched limits lanes event run.Empty s = s
+abbrev pub watched : Limits → ClassHops → ℕ → run.Outcome → Watched → Watched
+watched limits class_hops event (run.Arrived p a ranks) s = pushed_along limits event p.number ranks (class_hops p.class) s
+watched limits class_hops event (run.Departed p a ranks start) s = popped_along (class_hops p.class) s
+watched limits class_hops event (run.Dropped p a) s = s
+watched limits class_hops event run.Empty s = s
 
 -- the path of each class's packets, from a list
-abbrev pub lanes_in : List (Vec Hop Global) → Lanes
-lanes_in lanes class = unwrap_or (option_map (λ v. v.items) (slice_get lanes class)) []
+abbrev pub class_hops_in : List (Vec Hop Global) → ClassHops
+class_hops_in class_hops class = unwrap_or (option_map (λ v. v.items) (slice_get class_hops class)) []
 
 -- each hop has a node
 abbrev pub AreInside : ℕ → List Hop → Type 0
@@ -68,9 +68,9 @@ AreInside count hops = (k : ℕ) → ForSome (slice_get hops k) (λ h. h.node < 
 
 -- the hops of each path have a node
 abbrev pub ArePathsInside : ℕ → List (Vec Hop Global) → Type 0
-ArePathsInside count lanes = (c : ℕ) → ForSome (slice_get lanes c) (λ v. AreInside count v.items)
+ArePathsInside count class_hops = (c : ℕ) → ForSome (slice_get class_hops c) (λ v. AreInside count v.items)
 
 -- the first outcome has this event number
-abbrev pub watched_all : Limits → Lanes → ℕ → List run.Outcome → Watched → Watched
-watched_all limits lanes event [] s = s
-watched_all limits lanes event (o ∷ os) s = watched_all limits lanes (event + 1) os (watched limits lanes event o s)
+abbrev pub watched_all : Limits → ClassHops → ℕ → List run.Outcome → Watched → Watched
+watched_all limits class_hops event [] s = s
+watched_all limits class_hops event (o ∷ os) s = watched_all limits class_hops (event + 1) os (watched limits class_hops event o s)

@@ -26,8 +26,8 @@ AreUnused arities stores known nodes = (i : ℕ) (b : Address) → address_in kn
 
 -- a sizing of no event
 pub record IsUnused (l : Laid) (policy : Policy) (limits : Limits) (stores : Bool) (w : Sizing) : Type 0 where
-  pub lanes : length w.lanes.items ≡ length policy.classes
-  pub paths : (n : ℕ) → IfSome (slice_get w.lanes.items n) (λ v. IsPathTo w.known.keys l.images (leaf_of policy n) v.items)
+  pub class_hops : length w.class_hops.items ≡ length policy.classes
+  pub paths : (n : ℕ) → IfSome (slice_get w.class_hops.items n) (λ v. IsPathTo w.known.keys l.images (leaf_of policy n) v.items)
   pub once : IsOnce w.known.keys
   pub root : address_in w.known.keys 0 ≡ Some []
   pub places : addresses w.known.keys ≡ places l policy

@@ -10,7 +10,7 @@ use Rattle.size_core.specs.declared.queues.Queues.{Queues}
 use Rattle.size_core.specs.declared.sizing.Sizing.{Sizing}
 use Rattle.size_core.specs.Stores.{Stores}
 use Rattle.size_core.specs.Use.{Use, highest, spread}
-use Rattle.size_core.specs.Hops.{Lanes, Uses, Watched, lanes_in, watched_all}
+use Rattle.size_core.specs.Hops.{ClassHops, Uses, Watched, class_hops_in, watched_all}
 
 -- the greatest rank of a queue with an entry
 abbrev pub IsCrest : Queue → ℕ → Type 0
@@ -37,8 +37,8 @@ pub record Follows (q : Queues) (s : Watched) : Type 0 where
   pub passed : q.passed ≡ s.passed
 
 -- the path of each class's packets
-abbrev pub lanes_of : Sizing → Lanes
-lanes_of w = lanes_in w.lanes.items
+abbrev pub class_hops_of : Sizing → ClassHops
+class_hops_of w = class_hops_in w.class_hops.items
 
 -- a sizing has these uses
 abbrev pub Watches : Sizing → Watched → Type 0
@@ -46,7 +46,7 @@ Watches w s = Follows w.queues s
 
 -- all but the uses stays
 pub record Stays (w v : Sizing) : Type 0 where
-  pub lanes : v.lanes ≡ w.lanes
+  pub class_hops : v.class_hops ≡ w.class_hops
   pub known : v.known ≡ w.known
   pub names : v.names ≡ w.names
   pub count : length v.queues.nodes.items ≡ length w.queues.nodes.items
@@ -56,4 +56,4 @@ pub record Stays (w v : Sizing) : Type 0 where
 -- The outcomes change the uses. The first outcome has this event number.
 pub record WatchesAll (w : Sizing) (event : ℕ) (os : List Outcome) (v : Sizing) : Type 0 where
   pub stays : Stays w v
-  pub uses : (s : Watched) → Watches w s → Watches v (watched_all w.queues.limits (lanes_of w) event os s)
+  pub uses : (s : Watched) → Watches w s → Watches v (watched_all w.queues.limits (class_hops_of w) event os s)

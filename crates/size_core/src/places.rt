@@ -6,7 +6,7 @@ ghost use Rattle.tree_defs.specs.Topology.{topology_of};
 ghost use Rattle.policy_core.specs.Numbering.{address_at};
 ghost use Rattle.embed_defs.specs.Images.{image_map};
 ghost use Rattle.embed_defs.specs.GoodMaps.{IsGoodMap};
-ghost use Rattle.embed_core.specs.Lanes.{IsLaneTo};
+ghost use Rattle.embed_core.specs.LiftedPaths.{IsLiftedPathTo};
 ghost use Rattle.sched_embedded.specs.Laid.{leaf_of};
 ghost use Rattle.size_core.specs.Paths.{address_in, Grows, IsPath, IsPathTo};
 ghost use Rattle.size_core.specs.Places.{addresses, add, add_path, add_paths};
@@ -115,26 +115,26 @@ fn path_to(
     ensures path { IfOk result (λ v. IsPathTo known.new.keys map.now leaf.now v.items) }
     ensures grows { Grows known.old.keys known.new.keys }
 {
-    let lane = LiftedPath::to(alloc, map, leaf, height)?;
-    let steps = steps_of(alloc, map, leaf, &lane)?;
-    let hops = hops_of(alloc, known, &lane.image, &steps)?;
+    let lifted = LiftedPath::to(alloc, map, leaf, height)?;
+    let steps = steps_of(alloc, map, leaf, &lifted)?;
+    let hops = hops_of(alloc, known, &lifted.image, &steps)?;
     Ok(hops)
 }
 
-/// Returns the index of the rank of each node on a lane to a leaf.
+/// Returns the index of the rank of each node on a lifted path to a leaf.
 fn steps_of(
     alloc: Global,
     map: &Map,
     leaf: &[u32],
-    lane: &LiftedPath,
+    lifted: &LiftedPath,
 ) -> Result<Vec<u64>, AllocError>
-    requires lane { IsLaneTo map.now leaf.now lane.now }
-    ensures steps { IfOk result (λ v. v.items ≡ lane.now.steps.items) }
-    ensures long { IfOk result (λ v. length v.items ≡ length lane.now.image.items + 1) }
+    requires lifted { IsLiftedPathTo map.now leaf.now lifted.now }
+    ensures steps { IfOk result (λ v. v.items ≡ lifted.now.steps.items) }
+    ensures long { IfOk result (λ v. length v.items ≡ length lifted.now.image.items + 1) }
 {
     let ranks = numbers(alloc, leaf.len() + 1)?;
-    let mut steps = vec![in alloc; 0; lane.image.len() + 1]?;
-    lane.lift(&ranks, &mut steps);
+    let mut steps = vec![in alloc; 0; lifted.image.len() + 1]?;
+    lifted.lift(&ranks, &mut steps);
     Ok(steps)
 }
 

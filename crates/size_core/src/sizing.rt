@@ -21,7 +21,7 @@ use target_core::Target;
 #[derive(Drop)]
 pub struct Sizing {
     /// The nodes on the path of each class's packets, from the root down.
-    lanes: Vec<Vec<Hop>>,
+    class_hops: Vec<Vec<Hop>>,
     known: Known,
     /// The names that the nodes serve.
     names: Vec<Option<Name>>,
@@ -30,7 +30,7 @@ pub struct Sizing {
     height: usize,
     /// Whether each call so far succeeded.
     pub(crate) live: bool,
-    ghost inside: { ArePathsInside (length queues.nodes.items) lanes.items },
+    ghost inside: { ArePathsInside (length queues.nodes.items) class_hops.items },
 }
 
 impl Sizing {
@@ -63,11 +63,11 @@ impl Sizing {
     {
         let mut known = IndexSet::new(alloc);
         let indices = images_of(alloc, &mut known, policy, map)?;
-        let lanes = paths_of(alloc, &mut known, policy, map, target.height())?;
+        let class_hops = paths_of(alloc, &mut known, policy, map, target.height())?;
         let names = names_of(alloc, policy, &indices, known.len())?;
         let nodes = empty_nodes(alloc, &known, target, stores)?;
         Ok(Sizing {
-            lanes,
+            class_hops,
             known,
             names,
             queues: Queues {
@@ -91,8 +91,8 @@ impl Sizing {
             WatchesAll self.old event (run.Arrived packet.now a ranks.now ∷ []) self.new) }
         ensures live { self.new.live ≡ self.old.live }
     {
-        match self.lanes.get(packet.class as usize) {
-            Some(lane) => self.queues.push_along(event, packet.number, ranks, lane),
+        match self.class_hops.get(packet.class as usize) {
+            Some(hops) => self.queues.push_along(event, packet.number, ranks, hops),
             None => Ok(()),
         }
     }
@@ -104,8 +104,8 @@ impl Sizing {
             WatchesAll self.old event (run.Departed p a ranks start ∷ []) self.new }
         ensures live { self.new.live ≡ self.old.live }
     {
-        if let Some(lane) = self.lanes.get(class as usize) {
-            self.queues.pop_along(lane);
+        if let Some(hops) = self.class_hops.get(class as usize) {
+            self.queues.pop_along(hops);
         }
     }
 

@@ -3,15 +3,15 @@ use Rattle.sched_core.proofs.NodeSteps.{node-at, child-step, flow-step, range-he
 use Rattle.sched_core.proofs.node_states.pop_lines.Goals as goal
 
 -- ---- the node at this level
-pub bounds-states-waypoint : goal.bounds-states-waypoint
-bounds-states-waypoint c = (node-at c.requires.there _).within
+pub bounds-states-path_node : goal.bounds-states-path_node
+bounds-states-path_node c = (node-at c.requires.there _).within
 
 pub env-env-requires-clause-marks : goal.env-env-requires-clause-marks
 env-env-requires-clause-marks c = range-here (node-at c.requires.there _)
 
 -- ---- for a child
 pub pop_by_form-requires-clause-form : goal.pop_by_form-requires-clause-form
-pop_by_form-requires-clause-form c = (node-at c.requires.there _).waypoint.pop_form
+pop_by_form-requires-clause-form c = (node-at c.requires.there _).path_node.pop_form
 
 pub pop_by_form-requires-clause-can : goal.pop_by_form-requires-clause-can
 pop_by_form-requires-clause-can c = can-run (child-step c.requires.there c.index-passage-level.result _ c.env-env.ensures.env c.if-level-digits.true) c.requires.there.room c.env-env.ensures.range
@@ -21,7 +21,7 @@ returns-then-level-digits c = pop-made (child-step c.requires.there c.index-pass
 
 -- ---- for a flow of another group
 pub pop_by_form-requires-2-clause-form : goal.pop_by_form-requires-2-clause-form
-pop_by_form-requires-2-clause-form c = (node-at c.requires.there _).waypoint.pop_form
+pop_by_form-requires-2-clause-form c = (node-at c.requires.there _).path_node.pop_form
 
 pub pop_by_form-requires-2-clause-can : goal.pop_by_form-requires-2-clause-can
 pop_by_form-requires-2-clause-can c = can-run (flow-step c.requires.there c.index-passage-level.result _ c.env-env.ensures.env (omega (arith, c.if-level-digits.false)) c.of-key.ensures) c.requires.there.room c.env-env.ensures.range

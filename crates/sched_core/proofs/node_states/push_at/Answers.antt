@@ -13,15 +13,15 @@ pub returns-in-Some-clause-limit : goal.returns-in-Some-clause-limit
 returns-in-Some-clause-limit c = low-here (node-at c.requires.there _) c.in-Some.is
 
 -- ---- the node at this level
-pub bounds-states-waypoint : goal.bounds-states-waypoint
-bounds-states-waypoint c = (node-at c.requires.there _).within
+pub bounds-states-path_node : goal.bounds-states-path_node
+bounds-states-path_node c = (node-at c.requires.there _).within
 
 pub env-env-requires-clause-marks : goal.env-env-requires-clause-marks
 env-env-requires-clause-marks c = range-here (node-at c.requires.there _)
 
 -- ---- for a child
 pub push_by_form-requires-clause-form : goal.push_by_form-requires-clause-form
-push_by_form-requires-clause-form c = (node-at c.requires.there _).waypoint.push_form
+push_by_form-requires-clause-form c = (node-at c.requires.there _).path_node.push_form
 
 pub push_by_form-requires-clause-can : goal.push_by_form-requires-clause-can
 push_by_form-requires-clause-can c = can-run (child-step c.requires.there c.index-passage-level.result _ c.env-env.ensures.env c.if-level-digits.true) c.requires.there.room c.env-env.ensures.range
@@ -31,7 +31,7 @@ returns-then-level-digits c = push-made (child-step c.requires.there c.index-pas
 
 -- ---- for a flow with all five fields
 pub push_by_form-requires-2-clause-form : goal.push_by_form-requires-2-clause-form
-push_by_form-requires-2-clause-form c = (node-at c.requires.there _).waypoint.push_form
+push_by_form-requires-2-clause-form c = (node-at c.requires.there _).path_node.push_form
 
 pub push_by_form-requires-2-clause-can : goal.push_by_form-requires-2-clause-can
 push_by_form-requires-2-clause-can c = can-run (flow-step c.requires.there c.index-passage-level.result _ c.env-env.ensures.env (omega (arith, c.if-level-digits.false)) (five-fields c.args.passage.now.packet.now.flow c.in-Fair-FiveTuple.is-1)) c.requires.there.room c.env-env.ensures.range

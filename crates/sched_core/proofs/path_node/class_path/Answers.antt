@@ -12,5 +12,5 @@ returns c =
       limit = ap (λ (l : Limits). l.packets) (numbered-limits policy c.args.class.now.leaf c.limits.result c.limits.ensures.limits);
       group = numbered-group policy c.args.class.now.leaf c.group.result c.group.ensures.group;
       digits = c.address.ensures.address;
-      nodes = c.in_ok-waypoints_of.ensures;
+      nodes = c.in_ok-path_nodes_of.ensures;
     }

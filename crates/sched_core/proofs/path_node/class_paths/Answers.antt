@@ -1,7 +1,7 @@
 use Rattle.sched_core.proofs.Prelude.{sym, subst, get_or, address_at, class_in, LeadsToLeaf}
-use Rattle.sched_core.specs.Waypoints.{IsClassPath}
+use Rattle.sched_core.specs.PathNodes.{IsClassPath}
 use Rattle.policy_core.specs.declared.parts.Class.{Class}
-use Rattle.sched_core.proofs.WaypointsMade.{class-leads, paths-more}
+use Rattle.sched_core.proofs.PathNodesMade.{class-leads, paths-more}
 use Rattle.sched_core.proofs.path_node.class_paths.Goals as goal
 
 pub class_path-requires-clause-leads : goal.class_path-requires-clause-leads

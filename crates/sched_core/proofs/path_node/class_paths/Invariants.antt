@@ -1,4 +1,4 @@
-use Rattle.sched_core.proofs.WaypointsMade.{HavePaths}
+use Rattle.sched_core.proofs.PathNodesMade.{HavePaths}
 use Rattle.sched_core.proofs.path_node.class_paths.Given as goal
 
 abbrev pub invariant-loop-class : goal.invariant-loop-class

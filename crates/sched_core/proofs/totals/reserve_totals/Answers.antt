@@ -6,7 +6,7 @@ use Rattle.sched_core.proofs.totals.reserve_totals.Goals as goal
 
 pub reserve_along-requires : goal.reserve_along-requires
 reserve_along-requires c =
-    let policy : Policy = policy_of c.args.stations.now in
+    let policy : Policy = policy_of c.args.node_states.now in
     let on = on-path policy c.args.packet.now _ c.as_slice.result.now c.requires.accepted c.requires.known.class c.path.ensures.path c.as_slice.ensures.value in
     let sized = subst (AreSized policy) c.in-Some.is c.requires.sized in
     record {
@@ -15,7 +15,7 @@ reserve_along-requires c =
 
 pub returns-in-Some : goal.returns-in-Some
 returns-in-Some c =
-    let policy : Policy = policy_of c.args.stations.now in
+    let policy : Policy = policy_of c.args.node_states.now in
     let on = on-path policy c.args.packet.now _ c.as_slice.result.now c.requires.accepted c.requires.known.class c.path.ensures.path c.as_slice.ensures.value in
     let whole = refilled c.in-Some.nodes c.reserve_along.new.nodes (c.reserve_along.ensures.count ∙ ap (λ (l : List NodeTotals). length l) c.as_mut_slice.ensures.value) in
     record {

@@ -1,10 +1,10 @@
-use Rattle.embed_core.proofs.Prelude.{◌≡◌, length, arith, sym, ◌∙◌, ap, List, ℕ, ◌+◌, [], ◌∷◌, ◌++◌, subst, map, take, take_all, map_more, slice_index, image_map, picked_ranks, Address, LeadsToLeaf, IsLeafLane}
+use Rattle.embed_core.proofs.Prelude.{◌≡◌, length, arith, sym, ◌∙◌, ap, List, ℕ, ◌+◌, [], ◌∷◌, ◌++◌, subst, map, take, take_all, map_more, slice_index, image_map, picked_ranks, Address, LeadsToLeaf, IsLeafPath}
 use Rattle.embed_core.proofs.DepthSteps.{picked-depths, depths-long, depths-within, leads-short}
 use Rattle.embed_core.proofs.lifted_path.LeafTable.pick.Goals as goal
 
 pub loop-step-init : goal.loop-step-init
 loop-step-init c =
-    let l : IsLeafLane c.args.map.now c.in-Some.path.now = c.requires.paths c.in-Some.ensures.among.0 c.in-Some.path.now c.in-Some.ensures.among.1 in
+    let l : IsLeafPath c.args.map.now c.in-Some.path.now = c.requires.paths c.in-Some.ensures.among.0 c.in-Some.path.now c.in-Some.ensures.among.1 in
     record {
       whole = omega (arith, ap length (c.as_slice-depths.ensures.value ∙ l.leads.depths), ap length (c.as_slice-address.ensures.value ∙ l.leads.address_is), depths-long c.args.map.now l.address l.leaf);
       within = rw (c.as_slice-depths.ensures.value, l.leads.depths, c.requires.ranks) (depths-within (length c.args.digits.now) c.args.map.now l.address c.requires.good.deep l.leaf);
@@ -16,7 +16,7 @@ loop-step-init c =
 
 pub returns-clause-leads : goal.returns-clause-leads
 returns-clause-leads c =
-    let l : IsLeafLane c.args.map.now c.in-Some.path.now = c.requires.paths c.in-Some.ensures.among.0 c.in-Some.path.now c.in-Some.ensures.among.1 in
+    let l : IsLeafPath c.args.map.now c.in-Some.path.now = c.requires.paths c.in-Some.ensures.among.0 c.in-Some.path.now c.in-Some.ensures.among.1 in
     let all : c.last.new.self.digits ≡ c.as_slice-address.result.now = c.last.ensures.digits ∙ c.loop-step.invariant.digits ∙ take_all c.loop-step.step c.as_slice-address.result.now c.loop-step-test.false in
     let digits : c.last.new.self.digits ≡ l.address = all ∙ c.as_slice-address.ensures.value ∙ l.leads.address_is in
     record {
@@ -26,7 +26,7 @@ returns-clause-leads c =
 
 pub returns-clause-ranks : goal.returns-clause-ranks
 returns-clause-ranks c =
-    let l : IsLeafLane c.args.map.now c.in-Some.path.now = c.requires.paths c.in-Some.ensures.among.0 c.in-Some.path.now c.in-Some.ensures.among.1 in
+    let l : IsLeafPath c.args.map.now c.in-Some.path.now = c.requires.paths c.in-Some.ensures.among.0 c.in-Some.path.now c.in-Some.ensures.among.1 in
     let all : c.last.new.self.digits ≡ c.as_slice-address.result.now = c.last.ensures.digits ∙ c.loop-step.invariant.digits ∙ take_all c.loop-step.step c.as_slice-address.result.now c.loop-step-test.false in
     let end : length c.as_slice-address.result.now ≡ c.loop-step.step = omega (arith, c.loop-step.auto.step-end, c.loop-step-test.false) in
     c.last.ensures.ranks

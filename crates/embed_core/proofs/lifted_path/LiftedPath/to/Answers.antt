@@ -16,7 +16,7 @@ returns c =
     let steps : (with_items c.in_ok-steps.steps c.lift.new.ranks).items ≡ lift_ranks c.args.map.now c.args.address.now (range_with_len 0 (length c.args.address.now + 1))
     = with_items_is c.in_ok-steps.steps c.lift.new.ranks n' ∙ c.lift.ensures.ranks in
     record {
-      lane = record {
+      lifted = record {
         image = image ∙ c.lift.ensures.digits;
         long = ap length (with_items_is c.in_ok-steps.steps c.lift.new.ranks n') ∙ more ∙ ap (λ (z : List ℕ). length z + 1) (sym image);
         steps = steps;

@@ -1,15 +1,15 @@
-use Rattle.policy_core.proofs.PolicyParts.{within, own-station, name-is, name-length}
+use Rattle.policy_core.proofs.PolicyParts.{within, own-policy_node, name-is, name-length}
 use Rattle.policy_core.proofs.policy.Policy.name.Goals as goal
 
-pub station_of-requires-clause-there : goal.station_of-requires-clause-there
-station_of-requires-clause-there c = within _ _ _ _ _ c.args.self.now c.self.view_is c.self.invariant c.args.node c.requires.there
+pub policy_node_of-requires-clause-there : goal.policy_node_of-requires-clause-there
+policy_node_of-requires-clause-there c = within _ _ _ _ _ c.args.self.now c.self.view_is c.self.invariant c.args.node c.requires.there
 
 pub returns-clause-name : goal.returns-clause-name
 returns-clause-name c =
-    name-is _ _ _ _ _ c.args.self.now c.self.view_is c.self.invariant c.args.node c.station_of.result.now c.as_str.result.now c.requires.there
-    (own-station _ _ _ _ _ c.args.self.now c.self.view_is c.self.invariant c.args.node c.station_of.result.now c.as_slice.result.now c.as_slice.ensures c.station_of.ensures) c.as_str.ensures
+    name-is _ _ _ _ _ c.args.self.now c.self.view_is c.self.invariant c.args.node c.policy_node_of.result.now c.as_str.result.now c.requires.there
+    (own-policy_node _ _ _ _ _ c.args.self.now c.self.view_is c.self.invariant c.args.node c.policy_node_of.result.now c.as_slice.result.now c.as_slice.ensures c.policy_node_of.ensures) c.as_str.ensures
 
 pub returns-clause-short : goal.returns-clause-short
 returns-clause-short c =
-    name-length _ _ _ _ _ c.args.self.now c.self.view_is c.self.invariant c.args.node c.station_of.result.now c.as_str.result.now c.requires.there
-    (own-station _ _ _ _ _ c.args.self.now c.self.view_is c.self.invariant c.args.node c.station_of.result.now c.as_slice.result.now c.as_slice.ensures c.station_of.ensures) c.as_str.ensures
+    name-length _ _ _ _ _ c.args.self.now c.self.view_is c.self.invariant c.args.node c.policy_node_of.result.now c.as_str.result.now c.requires.there
+    (own-policy_node _ _ _ _ _ c.args.self.now c.self.view_is c.self.invariant c.args.node c.policy_node_of.result.now c.as_slice.result.now c.as_slice.ensures c.policy_node_of.ensures) c.as_str.ensures

@@ -1,7 +1,7 @@
-use Rattle.sched_core.proofs.Prelude.{arith, ◌≡◌, ap, ◌∙◌, sym, ℕ, List, length, subst, ◌<◌, [], refl, refilled, Packet, Policy, NodeState, Flow, Visit, class_of, way_out, visits_from, after_pops, policy_of, HaveValues, HasRoomAt, AreStations, HasRoomAtLeaf, tree_for, class_for, IsReady, PacketPath}
+use Rattle.sched_core.proofs.Prelude.{arith, ◌≡◌, ap, ◌∙◌, sym, ℕ, List, length, subst, ◌<◌, [], refl, refilled, Packet, Policy, NodeState, Flow, Visit, class_of, way_out, visits_from, after_pops, policy_of, HaveValues, HasRoomAt, AreNodeStates, HasRoomAtLeaf, tree_for, class_for, IsReady, PacketPath}
 use Rattle.rank_defs.specs.FlowGroups.{grouped}
 use Rattle.policy_defs.specs.Policy.{group_at}
-use Rattle.sched_core.specs.Waypoints.{IsClassPath}
+use Rattle.sched_core.specs.PathNodes.{IsClassPath}
 use Rattle.sched_core.proofs.RootWays.{path-there, ready, whole-way}
 use Rattle.sched_core.proofs.StepsMade.{HavePopped, popped-begun, popped-more, popped-values}
 use Rattle.sched_core.proofs.node_states.NodeStates.pop_steps.Goals as goal
@@ -9,7 +9,7 @@ use Rattle.sched_core.proofs.node_states.NodeStates.pop_steps.Goals.{After-as_mu
 
 -- ---- the packet's path
 abbrev path : After-as_mut_slice-states → PacketPath
-path c = record { policy = c.args.self.now.policy; waypoints = record { ref_ptr = c.as_slice.result.ref_ptr; now = c.as_slice.result.now }; packet = c.args.packet; moment = c.args.moment }
+path c = record { policy = c.args.self.now.policy; path_nodes = record { ref_ptr = c.as_slice.result.ref_ptr; now = c.as_slice.result.now }; packet = c.args.packet; moment = c.args.moment }
 
 on_path : (c : After-as_mut_slice-states) → IsClassPath (policy_of c.args.self.now) (class_for (path c)) c.index-path.result.now
 on_path c = path-there (policy_of c.args.self.now) c.args.packet.now c.requires.ready.known c.args.self.now.paths.items _ c.args.self.now.known c.index-path.ensures
@@ -26,7 +26,7 @@ has_room c =
 -- ---- the steps above the leaf
 pub loop-level-init : goal.loop-level-init
 loop-level-init c = record {
-  kept = subst (λ (l : List NodeState). AreStations (policy_of c.args.self.now).tree l) (sym c.as_mut_slice-states.ensures.value) c.args.self.now.kept;
+  kept = subst (λ (l : List NodeState). AreNodeStates (policy_of c.args.self.now).tree l) (sym c.as_mut_slice-states.ensures.value) c.args.self.now.kept;
   room = λ a who h. h;
   popped = λ v h. popped-begun (path (goal.at.loop-level-init c).After-as_mut_slice-states) v c.as_mut_slice-states.result.now c.args.ranks.now h;
 }

@@ -1,8 +1,8 @@
-use Rattle.sched_core.proofs.Prelude.{arith, ◌≡◌, ap, ◌∙◌, sym, ℕ, List, length, subst, ◌<◌, [], refl, ◌∷◌, ◌+◌, ◌≤◌, ◌++◌, length-append, take_more, take_all, length-take-le, slice_index_or, max_rank, depth, refilled, Packet, Policy, NodeState, Flow, Visit, States, class_of, way_in, after_pushes, ranks_pushed, policy_of, HaveValues, HasRoomAt, AreStations, HasRoomAtLeaf, tree_for, class_for, AreLowRanks, IsReady, PacketPath}
+use Rattle.sched_core.proofs.Prelude.{arith, ◌≡◌, ap, ◌∙◌, sym, ℕ, List, length, subst, ◌<◌, [], refl, ◌∷◌, ◌+◌, ◌≤◌, ◌++◌, length-append, take_more, take_all, length-take-le, slice_index_or, max_rank, depth, refilled, Packet, Policy, NodeState, Flow, Visit, States, class_of, way_in, after_pushes, ranks_pushed, policy_of, HaveValues, HasRoomAt, AreNodeStates, HasRoomAtLeaf, tree_for, class_for, AreLowRanks, IsReady, PacketPath}
 use Rattle.rank_defs.specs.FlowGroups.{grouped}
 use Rattle.policy_defs.specs.Policy.{group_at}
 use Rattle.sched_core.proofs.ClassLeaves.{leaf-depth}
-use Rattle.sched_core.specs.Waypoints.{IsClassPath}
+use Rattle.sched_core.specs.PathNodes.{IsClassPath}
 use Rattle.sched_core.proofs.RootWays.{path-there, ready, whole-way}
 use Rattle.sched_core.proofs.WayVisits.{all-more}
 use Rattle.sched_core.proofs.StepsMade.{HavePushed, pushed-begun, pushed-more, pushed-ranks, pushed-values}
@@ -11,7 +11,7 @@ use Rattle.sched_core.proofs.node_states.NodeStates.push_steps.Goals.{After-clea
 
 -- ---- the packet's path
 abbrev path : After-clear → PacketPath
-path c = record { policy = c.args.self.now.policy; waypoints = record { ref_ptr = c.as_slice.result.ref_ptr; now = c.as_slice.result.now }; packet = c.args.packet; moment = c.args.moment }
+path c = record { policy = c.args.self.now.policy; path_nodes = record { ref_ptr = c.as_slice.result.ref_ptr; now = c.as_slice.result.now }; packet = c.args.packet; moment = c.args.moment }
 
 on_path : (c : After-clear) → IsClassPath (policy_of c.args.self.now) (class_for (path c)) c.index-path.result.now
 on_path c = path-there (policy_of c.args.self.now) c.args.packet.now c.requires.ready.known c.args.self.now.paths.items _ c.args.self.now.known c.index-path.ensures
@@ -31,7 +31,7 @@ values-there c {values} h = subst (λ (l : List NodeState). HaveValues (policy_o
 -- ---- the steps above the leaf
 pub loop-level-init : goal.loop-level-init
 loop-level-init c = record {
-  kept = subst (λ (l : List NodeState). AreStations (policy_of c.args.self.now).tree l) (sym c.as_mut_slice-states.ensures.value) c.args.self.now.kept;
+  kept = subst (λ (l : List NodeState). AreNodeStates (policy_of c.args.self.now).tree l) (sym c.as_mut_slice-states.ensures.value) c.args.self.now.kept;
   room = λ a who h. h;
   digits = c.clear.ensures.digits;
   count = ap length c.clear.ensures.ranks;

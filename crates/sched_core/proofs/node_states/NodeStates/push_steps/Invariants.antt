@@ -1,10 +1,10 @@
-use Rattle.sched_core.proofs.Prelude.{◌≡◌, length, take, AreStations, tree_for, ForValues, KeepsRoom, AreLowRanks}
+use Rattle.sched_core.proofs.Prelude.{◌≡◌, length, take, AreNodeStates, tree_for, ForValues, KeepsRoom, AreLowRanks}
 use Rattle.sched_core.proofs.StepsMade.{HavePushed}
 use Rattle.sched_core.proofs.node_states.NodeStates.push_steps.Given as goal
 
 abbrev pub invariant-loop-level : goal.invariant-loop-level
 invariant-loop-level l = record {
-  kept : AreStations (tree_for l.passage) l.states;
+  kept : AreNodeStates (tree_for l.passage) l.states;
   room : KeepsRoom l.passage l.initial.states l.states;
   digits : l.trace.digits ≡ take l.level l.digits;
   count : length l.trace.ranks ≡ l.level;

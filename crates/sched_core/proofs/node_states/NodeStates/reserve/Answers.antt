@@ -5,7 +5,7 @@ use Rattle.rank_defs.specs.declared.environment.FlowKey.{FlowKey}
 use Rattle.policy_defs.specs.Policy.{group_at}
 use Rattle.sched_core.proofs.RootWays.{leaf-leads, leaf-address}
 use Rattle.sched_core.proofs.GroupLaws.{room-grouped}
-use Rattle.sched_core.proofs.RoomLaws.{flow-belongs, stations-reserved, values-reserved, room-reserved, room-made}
+use Rattle.sched_core.proofs.RoomLaws.{flow-belongs, node_states-reserved, values-reserved, room-reserved, room-made}
 use Rattle.sched_core.proofs.node_states.NodeStates.reserve.Goals as goal
 use Rattle.sched_core.proofs.node_states.NodeStates.reserve.Goals.{After-path-path}
 
@@ -27,7 +27,7 @@ reserve-requires c =
 pub invariant_of-self-clause-kept : goal.invariant_of-self-clause-kept
 invariant_of-self-clause-kept c =
     let t = (goal.at.invariant_of-self-clause-kept c).After-path-path in
-    stations-reserved (policy_of c.args.self.now).tree c.args.self.now.states.items _ c.index_mut.result.now (there t).0 (short t) c.args.self.now.kept c.index_mut.ensures.value
+    node_states-reserved (policy_of c.args.self.now).tree c.args.self.now.states.items _ c.index_mut.result.now (there t).0 (short t) c.args.self.now.kept c.index_mut.ensures.value
     c.reserve.new.self c.reserve.ensures.same c.reserve.ensures.kept c.reserve.ensures.children
 
 pub returns-in-FiveTuple-clause-room : goal.returns-in-FiveTuple-clause-room

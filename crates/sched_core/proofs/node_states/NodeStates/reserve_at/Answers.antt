@@ -1,5 +1,5 @@
 use Rattle.sched_core.proofs.Prelude.{arith, on_ok_weaker, address-undone, policy_of}
-use Rattle.sched_core.proofs.RoomLaws.{flow-belongs, stations-reserved, values-reserved, room-reserved, room-made}
+use Rattle.sched_core.proofs.RoomLaws.{flow-belongs, node_states-reserved, values-reserved, room-reserved, room-made}
 use Rattle.sched_core.proofs.node_states.NodeStates.reserve_at.Goals as goal
 
 pub reserve-requires : goal.reserve-requires
@@ -10,7 +10,7 @@ reserve-requires c = record {
 
 pub invariant_of-self-clause-kept : goal.invariant_of-self-clause-kept
 invariant_of-self-clause-kept c =
-    stations-reserved (policy_of c.args.self.now).tree c.args.self.now.states.items _ c.index_mut.result.now c.requires.there (omega (arith, c.requires.there, c.args.self.now.kept.count)) c.args.self.now.kept c.index_mut.ensures.value
+    node_states-reserved (policy_of c.args.self.now).tree c.args.self.now.states.items _ c.index_mut.result.now c.requires.there (omega (arith, c.requires.there, c.args.self.now.kept.count)) c.args.self.now.kept c.index_mut.ensures.value
     c.reserve.new.self c.reserve.ensures.same c.reserve.ensures.kept c.reserve.ensures.children
 
 pub returns-clause-room : goal.returns-clause-room

@@ -64,7 +64,7 @@ record HasReserved (p : Packet) (old new : NodeStates) (before after : MayTotals
   kept : (values : Values) → AreKept (policy_of old) before values → AreKept (policy_of old) after values
   totals_room : HasTotalsRoom (policy_of old) p after
 
-reserved : (c : After-put) → HasReserved c.args.packet.now c.args.self.now.stations c.if-is_some.self.1.0 c.args.self.now.totals c.if-is_some.self.1.1.1.1.0
+reserved : (c : After-put) → HasReserved c.args.packet.now c.args.self.now.node_states c.if-is_some.self.1.0 c.args.self.now.totals c.if-is_some.self.1.1.1.1.0
 reserved c = elim c.if-is_some.branch [
   | then-is_some+in_ok-reserve_totals w ↦ rw w.self-is record {
     policy = c.reserve.ensures.policy;
@@ -126,8 +126,8 @@ add_to_totals-requires c =
       room = subst (λ (z : Policy). HasTotalsRoom z c.args.packet.now c.if-is_some.self.1.1.1.1.0) (sym same) r.totals_room;
     }
 
-record HasAdded (p : Packet) (policy : Policy) (stations new : NodeStates) (before after : MayTotals) : Type 0 where
-  same : new ≡ stations
+record HasAdded (p : Packet) (policy : Policy) (node_states new : NodeStates) (before after : MayTotals) : Type 0 where
+  same : new ≡ node_states
   kept : (values : Values) → AreKept policy before values → AreFew values → AreKept policy after (with_one_more policy p values)
 
 added : (c : After-index_mut) → policy_of c.if-is_some.self.1.0 ≡ policy_in c.args.self.now → HasAdded c.args.packet.now (policy_in c.args.self.now) c.push_steps.new.self c.if-is_some-2.self.1.0 c.if-is_some.self.1.1.1.1.0 c.if-is_some-2.self.1.1.1.1.0

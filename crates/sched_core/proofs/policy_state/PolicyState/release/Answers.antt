@@ -73,8 +73,8 @@ overflow_sub-index_mut c =
     (taken policy r.state c.args.number c.args.digits.now c.args.ranks.now r.has) r.sound r.has.popped held in
     omega (arith, some)
 
-record HasLeft (p : Packet) (policy : Policy) (stations new : NodeStates) (q : Packet) (before after : MayTotals) : Type 0 where
-  same : new ≡ stations
+record HasLeft (p : Packet) (policy : Policy) (node_states new : NodeStates) (q : Packet) (before after : MayTotals) : Type 0 where
+  same : new ≡ node_states
   leaver : q ≡ p
   kept : (values : Values) → AreKept policy before values → AreKept policy after (with_one_fewer policy p values)
 

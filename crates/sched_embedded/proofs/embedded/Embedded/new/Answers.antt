@@ -1,4 +1,4 @@
-use Rattle.sched_embedded.proofs.Prelude.{sym, ℕ, ◌∙◌, ap, subst, arith, length, IsGoodMap, image_map, IsLift, Policy, policy_in, empty_tree, topology_of, Address, Tree, HasLanes, Laid}
+use Rattle.sched_embedded.proofs.Prelude.{sym, ℕ, ◌∙◌, ap, subst, arith, length, IsGoodMap, image_map, IsLift, Policy, policy_in, empty_tree, topology_of, Address, Tree, HasLiftedPaths, Laid}
 use Rattle.sched_embedded.specs.Laid.{MapsToLeaves}
 use Rattle.embed_defs.proofs.EmbeddedMaps.{embeddings_are_good_maps as good_map}
 use Rattle.sched_embedded.proofs.MapShapes.{topology-same, embedding-laid, empty-lifted, same_laid}
@@ -11,8 +11,8 @@ new-requires-2 g c =
 pub invariant_of-result : goal.invariant_of-result
 invariant_of-result g c = record {
   few = (omega (arith, c.requires.few.pushes, c.pushes.ensures, c.in_ok-configure.ensures.pushed), omega (arith, c.requires.few.pops, c.pops.ensures, c.in_ok-configure.ensures.popped));
-  lanes_lead = subst (λ (m : Tree Address). HasLanes m (policy_in c.in_ok-own.own) c.in_ok-lanes.lanes.items) (sym c.in_ok-embedding.ensures.images)
-      (subst (λ (p : Policy). HasLanes c.args.map p c.in_ok-lanes.lanes.items) (sym c.in_ok-own.ensures.policy) c.in_ok-lanes.ensures.lanes);
+  paths_lead = subst (λ (m : Tree Address). HasLiftedPaths m (policy_in c.in_ok-own.own) c.in_ok-lifted_paths.lifted_paths.items) (sym c.in_ok-embedding.ensures.images)
+      (subst (λ (p : Policy). HasLiftedPaths c.args.map p c.in_ok-lifted_paths.lifted_paths.items) (sym c.in_ok-own.ensures.policy) c.in_ok-lifted_paths.ensures.lifted_paths);
   leaves = subst (λ (l : Laid). MapsToLeaves l.images l.arities)
       (sym (same_laid c.in_ok-embedding.embedding c.args.map c.args.target.now.arities c.in_ok-embedding.ensures.images c.in_ok-embedding.ensures.arities))
       (embedding-laid (topology_of c.args.policy.now.policy.tree) c.args.map c.args.target.now.arities c.requires.placed.map_shape c.requires.placed.embedding).leaves;
@@ -31,7 +31,7 @@ returns-clause-stands g c = record {
   pops = omega (arith, c.pops.ensures, c.in_ok-own.ensures.departures);
 }
 
-pub class_lanes-requires-clause-good : goal.class_lanes-requires-clause-good
-class_lanes-requires-clause-good g c =
+pub class_paths-requires-clause-good : goal.class_paths-requires-clause-good
+class_paths-requires-clause-good g c =
     subst (λ (h : ℕ). IsGoodMap h c.args.map) (sym c.len.ensures)
     (good_map c.args.target.now.arities (topology_of c.args.policy.now.policy.tree) c.args.map c.requires.placed.map_shape c.requires.placed.embedding)

@@ -1,7 +1,7 @@
-use Rattle.sched_embedded.proofs.Prelude.{sym, ℕ, ◌∙◌, ap, ◌≡◌, subst, length, arith, refl, None, Family, Pops, IsLeafImage, AreLeafLanes, IsGoodMap, image_map, IsLift, Policy, policy_in, pop_size, departed, IsSound, SourceState, picked_ranks, Way, SourceTree, pop, depth, Laid, HoldsLift, PopsTo}
+use Rattle.sched_embedded.proofs.Prelude.{sym, ℕ, ◌∙◌, ap, ◌≡◌, subst, length, arith, refl, None, Family, Pops, IsLeafImage, AreLeafPaths, IsGoodMap, image_map, IsLift, Policy, policy_in, pop_size, departed, IsSound, SourceState, picked_ranks, Way, SourceTree, pop, depth, Laid, HoldsLift, PopsTo}
 use Rattle.rank_core.proofs.Lists.{refilled}
 use Rattle.sched_embedded.proofs.MapShapes.{same_depth, sound-holds, laid-good}
-use Rattle.sched_embedded.proofs.ClassLanes.{lanes-lead}
+use Rattle.sched_embedded.proofs.ClassPaths.{lifted_paths-lead}
 use Rattle.sched_embedded.proofs.LiftMoves.{lift-same, pops_nothing, leaf_image, popped-to}
 use Rattle.sched_embedded.proofs.DepartedPackets.{next, departed-tree, leaver-taken, not-empty}
 use Rattle.embed_core.specs.Picks.{LeadsToImage}
@@ -28,9 +28,9 @@ digits g c = c.deref-2.ensures.value ∙ refilled c.embedding.inside.digits c.po
 
 pub pick-requires-clause-paths : goal.pick-requires-clause-paths
 pick-requires-clause-paths g c =
-    let lanes : AreLeafLanes c.args.self.now.embedding.images c.args.self.now.lanes.items
-    = lanes-lead c.args.self.now.embedding.images (policy_in c.args.self.now.own) c.args.self.now.lanes.items c.requires.can.accepted c.args.self.now.shape c.args.self.now.lanes_lead in
-    rw c.deref.ensures.value (subst (λ (l : Laid). AreLeafLanes l.images c.args.self.now.lanes.items) (sym c.embedding.view_is) lanes)
+    let lifted_paths : AreLeafPaths c.args.self.now.embedding.images c.args.self.now.lifted_paths.items
+    = lifted_paths-lead c.args.self.now.embedding.images (policy_in c.args.self.now.own) c.args.self.now.lifted_paths.items c.requires.can.accepted c.args.self.now.shape c.args.self.now.paths_lead in
+    rw c.deref.ensures.value (subst (λ (l : Laid). AreLeafPaths l.images c.args.self.now.lifted_paths.items) (sym c.embedding.view_is) lifted_paths)
 
 pub pick-requires-clause-leaf : goal.pick-requires-clause-leaf
 pick-requires-clause-leaf g c =

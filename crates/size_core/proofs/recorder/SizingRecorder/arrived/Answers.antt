@@ -8,7 +8,7 @@ returns-clause-ok g c bytes policy a same name =
     let made = ok a in
     record {
       uses = record {
-        stays = record { lanes = made.stays.lanes; known = made.stays.known; names = made.stays.names; count = made.stays.count; limits = made.stays.limits; height = made.stays.height };
+        stays = record { class_hops = made.stays.class_hops; known = made.stays.known; names = made.stays.names; count = made.stays.count; limits = made.stays.limits; height = made.stays.height };
         uses = λ s h. let after = made.uses s h in record { nodes = after.nodes; passed = after.passed };
       };
       unwritten = refl;

@@ -9,7 +9,7 @@ invariant_of-result c = record {
   inside = λ n v e.
       let leaf = leaf_of c.args.policy.now.policy n in
       let to : IsPathTo c.paths_of.new.known.keys c.args.map.now leaf v.items
-      = some_at (λ n (v : Vec Hop Global). IsPathTo c.paths_of.new.known.keys c.args.map.now (leaf_of c.args.policy.now.policy n) v.items) c.in_ok-lanes.lanes.items c.in_ok-lanes.ensures.each n v e in
+      = some_at (λ n (v : Vec Hop Global). IsPathTo c.paths_of.new.known.keys c.args.map.now (leaf_of c.args.policy.now.policy n) v.items) c.in_ok-class_hops.class_hops.items c.in_ok-class_hops.ensures.each n v e in
       path-inside c.paths_of.new.known.keys (length c.in_ok-nodes.nodes.items) (image_map c.args.map.now leaf) to.steps v.items c.in_ok-nodes.ensures.count to.path;
 }
 
@@ -22,11 +22,11 @@ returns c =
     let one : IsOnce known = once known c.len.ensures.unique in
     record {
       unused = record {
-        lanes = c.in_ok-lanes.ensures.many;
-        paths = c.in_ok-lanes.ensures.each;
+        class_hops = c.in_ok-class_hops.ensures.many;
+        paths = c.in_ok-class_hops.ensures.each;
         once = one;
         root = c.paths_of.ensures.grows 0 [] c.in_ok-indices.ensures.root;
-        places = c.in_ok-lanes.ensures.added ∙ ap (λ (z : List Address). add_paths (λ n. image_map l.images (leaf_of policy n)) (length policy.classes) z) c.in_ok-indices.ensures.added;
+        places = c.in_ok-class_hops.ensures.added ∙ ap (λ (z : List Address). add_paths (λ n. image_map l.images (leaf_of policy n)) (length policy.classes) z) c.in_ok-indices.ensures.added;
         names = λ i b e.
             let names = c.in_ok-names.names.items in
             let within : i < length names = omega (arith, in_range known i b e, c.in_ok-names.ensures.count, c.len.ensures.len) in

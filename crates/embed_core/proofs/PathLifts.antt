@@ -1,5 +1,5 @@
 -- Lifting the step numbers as if they were ranks shows whose rank is at each depth.
-use Rattle.embed_core.proofs.Prelude.{◌≡◌, length, arith, sym, ◌∙◌, ap, List, ◌+◌, subst, ℕ, ◌<◌, [], refl, get_or, ◌∷◌, ◌++◌, map, suc, zero, ◌-◌, replicate, map-append, length-range_with_len, get_or-range_with_len, AllByRecursion, range_with_len, slice_index, lift_ranks, lift_ranks_below, Address, Tree, root_of, inner, leaf, Trees, more, none, IsLaneTo}
+use Rattle.embed_core.proofs.Prelude.{◌≡◌, length, arith, sym, ◌∙◌, ap, List, ◌+◌, subst, ℕ, ◌<◌, [], refl, get_or, ◌∷◌, ◌++◌, map, suc, zero, ◌-◌, replicate, map-append, length-range_with_len, get_or-range_with_len, AllByRecursion, range_with_len, slice_index, lift_ranks, lift_ranks_below, Address, Tree, root_of, inner, leaf, Trees, more, none, IsLiftedPathTo}
 use Rattle.embed_core.specs.declared.lifted_path.LiftedPath.{LiftedPath}
 
 map-replicate : (f : ℕ → ℕ) (n x : ℕ) → map f (replicate n x) ≡ replicate n (f x)
@@ -67,15 +67,15 @@ range-below a zero = tt
 range-below a (suc n) = (omega arith, let h : AreBelow (a + 1 + n) (range_with_len (a + 1) n) = range-below (a + 1) n in let e : a + 1 + n ≡ a + suc n = omega arith in subst (λ (z : ℕ). AreBelow z (range_with_len (a + 1) n)) e h)
 
 -- the lifted path's lift is the map's, and its steps are steps of the path
-module _ (images : Tree Address) (address : Address) (lane : LiftedPath) (is : IsLaneTo images address lane) where
-  pub lane-lift : (ranks : List ℕ) → length ranks ≡ length address + 1 → map (slice_index ranks) lane.steps.items ≡ lift_ranks images address ranks
-  lane-lift ranks n =
+module _ (images : Tree Address) (address : Address) (lifted : LiftedPath) (is : IsLiftedPathTo images address lifted) where
+  pub lifted-lift : (ranks : List ℕ) → length ranks ≡ length address + 1 → map (slice_index ranks) lifted.steps.items ≡ lift_ranks images address ranks
+  lifted-lift ranks n =
       ap (map (slice_index ranks)) is.steps
       ∙ sym (lift-map (slice_index ranks) images address (range_with_len 0 (length address + 1)) (length-range_with_len 0 (length address + 1)))
       ∙ ap (lift_ranks images address) (read-steps ranks (length address + 1) n)
 
-  pub lane-within : AllByRecursion (λ step. step < length address + 1) lane.steps.items
-  lane-within =
+  pub lifted-within : AllByRecursion (λ step. step < length address + 1) lifted.steps.items
+  lifted-within =
       let e : 0 + (length address + 1) ≡ length address + 1 = omega arith in
       let h : AreBelow (length address + 1) (range_with_len 0 (length address + 1)) = subst (λ (z : ℕ). AreBelow z (range_with_len 0 (length address + 1))) e (range-below 0 (length address + 1)) in
       subst (AreBelow (length address + 1)) (sym is.steps) (lift-below (length address + 1) images address (range_with_len 0 (length address + 1)) (length-range_with_len 0 (length address + 1)) h)

@@ -49,7 +49,7 @@ abbrev pub group_code : Coded FlowGroup
 group_code = group_row.the_row.coded
 
 -- the entry for the node at a level of a class's path; the root's level is 0
-pub record IsWaypoint (tree : Tree Node) (c : Class) (level : ℕ) (s : PathNode) : Type 0 where
+pub record IsPathNode (tree : Tree Node) (c : Class) (level : ℕ) (s : PathNode) : Type 0 where
   pub node : s.node ≡ number_at tree (take level c.leaf)
   pub program : program_at s ≡ (root_of (part_at tree (take level c.leaf))).program
   pub group : s.group ≡ (root_of (part_at tree (take level c.leaf))).group
@@ -59,9 +59,9 @@ pub record IsWaypoint (tree : Tree Node) (c : Class) (level : ℕ) (s : PathNode
   pub pop_form : IsForm (program_at s) (program_at s).pop s.pop
 
 -- one entry for each node on the path
-pub record AreWaypoints (tree : Tree Node) (c : Class) (waypoints : List PathNode) : Type 0 where
-  pub count : length waypoints ≡ length c.leaf + 1
-  pub each : (level : ℕ) (s : PathNode) → slice_get waypoints level ≡ Some s → IsWaypoint tree c level s
+pub record ArePathNodes (tree : Tree Node) (c : Class) (path_nodes : List PathNode) : Type 0 where
+  pub count : length path_nodes ≡ length c.leaf + 1
+  pub each : (level : ℕ) (s : PathNode) → slice_get path_nodes level ≡ Some s → IsPathNode tree c level s
 
 -- what the events of a class need
 pub record IsClassPath (policy : Policy) (c : Class) (k : ClassPath) : Type 0 where
@@ -69,15 +69,15 @@ pub record IsClassPath (policy : Policy) (c : Class) (k : ClassPath) : Type 0 wh
   pub limit : k.limit ≡ (limits_at policy c.leaf).packets
   pub group : k.group ≡ group_at policy c.leaf
   pub digits : k.digits.now ≡ c.leaf
-  pub nodes : AreWaypoints policy.tree c k.nodes.items
+  pub nodes : ArePathNodes policy.tree c k.nodes.items
 
 -- the same for each class
 pub record AreWays (policy : Policy) (paths : List ClassPath) : Type 0 where
   pub count : length paths ≡ length policy.classes
   pub each : (i : ℕ) (c : Class) (k : ClassPath) → slice_get policy.classes i ≡ Some c → slice_get paths i ≡ Some k → IsClassPath policy c k
 
-IsWaypoint-prop : (tree : Tree Node) (c : Class) (level : ℕ) (s : PathNode) → IsProp (IsWaypoint tree c level s)
-IsWaypoint-prop tree c level s a b i = record {
+IsPathNode-prop : (tree : Tree Node) (c : Class) (level : ℕ) (s : PathNode) → IsProp (IsPathNode tree c level s)
+IsPathNode-prop tree c level s a b i = record {
   node = Coded-set coded_ℕ _ _ a.node b.node i;
   program = Coded-set program_code _ _ a.program b.program i;
   group = Coded-set group_code _ _ a.group b.group i;
@@ -87,10 +87,10 @@ IsWaypoint-prop tree c level s a b i = record {
   pop_form = IsForm-prop (program_at s) (program_at s).pop s.pop a.pop_form b.pop_form i;
 }
 
-AreWaypoints-prop : (tree : Tree Node) (c : Class) (waypoints : List PathNode) → IsProp (AreWaypoints tree c waypoints)
-AreWaypoints-prop tree c waypoints a b i = record {
+ArePathNodes-prop : (tree : Tree Node) (c : Class) (path_nodes : List PathNode) → IsProp (ArePathNodes tree c path_nodes)
+ArePathNodes-prop tree c path_nodes a b i = record {
   count = Coded-set coded_ℕ _ _ a.count b.count i;
-  each = λ level s at. IsWaypoint-prop tree c level s (a.each level s at) (b.each level s at) i;
+  each = λ level s at. IsPathNode-prop tree c level s (a.each level s at) (b.each level s at) i;
 }
 
 IsClassPath-prop : (policy : Policy) (c : Class) (k : ClassPath) → IsProp (IsClassPath policy c k)
@@ -99,7 +99,7 @@ IsClassPath-prop policy c k a b i = record {
   limit = Coded-set (coded_option coded_ℕ) _ _ a.limit b.limit i;
   group = Coded-set group_code _ _ a.group b.group i;
   digits = Coded-set (coded_list coded_ℕ) _ _ a.digits b.digits i;
-  nodes = AreWaypoints-prop policy.tree c k.nodes.items a.nodes b.nodes i;
+  nodes = ArePathNodes-prop policy.tree c k.nodes.items a.nodes b.nodes i;
 }
 
 -- all proofs of it are equal

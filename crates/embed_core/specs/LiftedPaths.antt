@@ -20,22 +20,22 @@ abbrev mutual
 
 -- It has the leaf's image and address. For each rank of a lift, it has the number of the step whose
 -- rank it is. For each node on the path, it has the depth of the node's image.
-pub record IsLaneTo (images : Tree Address) (address : Address) (lane : LiftedPath) : Type 0 where
-  pub image : lane.image.items ≡ image_map images address
-  pub long : length lane.steps.items ≡ length lane.image.items + 1
-  pub steps : lane.steps.items ≡ lift_ranks images address (range_with_len 0 (length address + 1))
-  pub address_is : lane.address.items ≡ address
-  pub depths : lane.depths.items ≡ image_depths images address
+pub record IsLiftedPathTo (images : Tree Address) (address : Address) (lifted : LiftedPath) : Type 0 where
+  pub image : lifted.image.items ≡ image_map images address
+  pub long : length lifted.steps.items ≡ length lifted.image.items + 1
+  pub steps : lifted.steps.items ≡ lift_ranks images address (range_with_len 0 (length address + 1))
+  pub address_is : lifted.address.items ≡ address
+  pub depths : lifted.depths.items ≡ image_depths images address
 
 -- it is the lifted path to a leaf
-pub record IsLeafLane (images : Tree Address) (lane : LiftedPath) : Type 0 where
+pub record IsLeafPath (images : Tree Address) (lifted : LiftedPath) : Type 0 where
   pub address : Address
   pub leaf : LeadsToLeaf images address
-  pub leads : IsLaneTo images address lane
+  pub leads : IsLiftedPathTo images address lifted
 
 -- each of these is the lifted path to a leaf
-abbrev pub AreLeafLanes : Tree Address → List LiftedPath → Type 0
-AreLeafLanes images lanes = (n : ℕ) (lane : LiftedPath) → slice_get lanes n ≡ Some lane → IsLeafLane images lane
+abbrev pub AreLeafPaths : Tree Address → List LiftedPath → Type 0
+AreLeafPaths images lifted_paths = (n : ℕ) (lifted : LiftedPath) → slice_get lifted_paths n ≡ Some lifted → IsLeafPath images lifted
 
 pub image_depths-transit_node : image_depths with_transit (1 ∷ 0 ∷ []) ≡ 0 ∷ 2 ∷ 3 ∷ []
 image_depths-transit_node = refl

@@ -1,33 +1,33 @@
 -- The nodes on the paths of classes, taken from a policy one after another.
-use Rattle.sched_core.proofs.Prelude.{arith, ◌≡◌, ap, ◌∙◌, sym, ℕ, List, length, subst, Some, ◌<◌, [], refl, ◌∷◌, None, ◌+◌, ◌≤◌, get_or, suc, zero, ◌++◌, take, drop, map, length-append, drop_all, slice_get-get_or, slice_get-map, AllByRecursion, slice_get, slice_index_or, option_map, address_at, HasAt, class_in, told, IsAccepted, IsClassReady, number_at, Node, Policy, node_at, IsForm, Tree, Address, LeadsToLeaf, nodes, inner, leaf, root_of, IsAddressOf, part_at, marks_on, AreWaypoints, rank_told, IsWaypoint, PathNode}
+use Rattle.sched_core.proofs.Prelude.{arith, ◌≡◌, ap, ◌∙◌, sym, ℕ, List, length, subst, Some, ◌<◌, [], refl, ◌∷◌, None, ◌+◌, ◌≤◌, get_or, suc, zero, ◌++◌, take, drop, map, length-append, drop_all, slice_get-get_or, slice_get-map, AllByRecursion, slice_get, slice_index_or, option_map, address_at, HasAt, class_in, told, IsAccepted, IsClassReady, number_at, Node, Policy, node_at, IsForm, Tree, Address, LeadsToLeaf, nodes, inner, leaf, root_of, IsAddressOf, part_at, marks_on, ArePathNodes, rank_told, IsPathNode, PathNode}
 use Rattle.policy_defs.specs.Policy.{Class as Aimed, Marks as Told}
 use Rattle.policy_core.specs.declared.parts.Class.{Class}
 use Rattle.policy_core.specs.declared.parts.Marks.{Marks}
 use Rattle.sched_core.specs.declared.path_node.ClassPath.{ClassPath}
-use Rattle.sched_core.specs.Waypoints.{IsClassPath, program_at}
+use Rattle.sched_core.specs.PathNodes.{IsClassPath, program_at}
 use Rattle.sched_core.proofs.TreeParts.{some-is, some-and, node-of_part}
 use Rattle.sched_core.proofs.FirstStates.{last-cases}
 use Rattle.sched_core.proofs.NodeSteps.{marks-of_class}
 use Rattle.sched_core.proofs.Levels.{there-at, number-of, ahead-next, place-next, next-at, child-at}
 
 -- the nodes of the first levels
-pub record HaveStops (tree : Tree Node) (c : Aimed) (waypoints : List PathNode) (n : ℕ) : Type 0 where
-  pub count : length waypoints ≡ n
-  pub each : (level : ℕ) (s : PathNode) → slice_get waypoints level ≡ Some s → IsWaypoint tree c level s
+pub record HaveStops (tree : Tree Node) (c : Aimed) (path_nodes : List PathNode) (n : ℕ) : Type 0 where
+  pub count : length path_nodes ≡ n
+  pub each : (level : ℕ) (s : PathNode) → slice_get path_nodes level ≡ Some s → IsPathNode tree c level s
 
-pub waypoints-begun : (tree : Tree Node) (c : Aimed) (waypoints : List PathNode) → waypoints ≡ [] → HaveStops tree c waypoints 0
-waypoints-begun tree c [] e = record { count = refl; each = λ level s at. (let f : None ≡ Some s = at in cc) }
-waypoints-begun tree c (s ∷ waypoints) e = cc
+pub path_nodes-begun : (tree : Tree Node) (c : Aimed) (path_nodes : List PathNode) → path_nodes ≡ [] → HaveStops tree c path_nodes 0
+path_nodes-begun tree c [] e = record { count = refl; each = λ level s at. (let f : None ≡ Some s = at in cc) }
+path_nodes-begun tree c (s ∷ path_nodes) e = cc
 
-pub waypoints-more : (tree : Tree Node) (c : Aimed) (waypoints more : List PathNode) (n : ℕ) (s : PathNode) → HaveStops tree c waypoints n → more ≡ waypoints ++ s ∷ [] → IsWaypoint tree c n s → HaveStops tree c more (n + 1)
-waypoints-more tree c waypoints more n s h is stop = record { count = ap length is ∙ length-append waypoints (s ∷ []) ∙ ap (λ m. m + 1) h.count; each = each }
+pub path_nodes-more : (tree : Tree Node) (c : Aimed) (path_nodes more : List PathNode) (n : ℕ) (s : PathNode) → HaveStops tree c path_nodes n → more ≡ path_nodes ++ s ∷ [] → IsPathNode tree c n s → HaveStops tree c more (n + 1)
+path_nodes-more tree c path_nodes more n s h is stop = record { count = ap length is ∙ length-append path_nodes (s ∷ []) ∙ ap (λ m. m + 1) h.count; each = each }
   where
-    each : (level : ℕ) (x : PathNode) → slice_get more level ≡ Some x → IsWaypoint tree c level x
-    each level x at = last-cases waypoints level s x (ap (λ (l : List PathNode). slice_get l level) (sym is) ∙ at) (h.each level x)
-        (λ last same. subst (λ (j : ℕ). IsWaypoint tree c j x) (sym (last ∙ h.count)) (subst (λ (z : PathNode). IsWaypoint tree c n z) same stop))
+    each : (level : ℕ) (x : PathNode) → slice_get more level ≡ Some x → IsPathNode tree c level x
+    each level x at = last-cases path_nodes level s x (ap (λ (l : List PathNode). slice_get l level) (sym is) ∙ at) (h.each level x)
+        (λ last same. subst (λ (j : ℕ). IsPathNode tree c j x) (sym (last ∙ h.count)) (subst (λ (z : PathNode). IsPathNode tree c n z) same stop))
 
-pub waypoints-whole : (tree : Tree Node) (c : Aimed) (waypoints : List PathNode) (n : ℕ) → HaveStops tree c waypoints (n + 1) → n ≡ length c.leaf → AreWaypoints tree c waypoints
-waypoints-whole tree c waypoints n h is = record { count = h.count ∙ ap (λ m. m + 1) is; each = h.each }
+pub path_nodes-whole : (tree : Tree Node) (c : Aimed) (path_nodes : List PathNode) (n : ℕ) → HaveStops tree c path_nodes (n + 1) → n ≡ length c.leaf → ArePathNodes tree c path_nodes
+path_nodes-whole tree c path_nodes n h is = record { count = h.count ∙ ap (λ m. m + 1) is; each = h.each }
 
 pub root-number : (tree : Tree Node) → 0 ≡ number_at tree []
 root-number (leaf n) = refl
@@ -57,10 +57,10 @@ module _ {tree : Tree Node} {c : Aimed} {level : ℕ} {node : ℕ} (r : IsReache
   node-there = ap (node_at tree) back ∙ node-of_part tree (take level c.leaf) (part_at tree (take level c.leaf)) (there-at tree c.leaf r.leads level r.short)
 
   -- the entry for it
-  pub waypoint-made : {s : PathNode} {m : Marks} → s.node ≡ node → HasAt tree node (λ n. program_at s ≡ n.program) → HasAt tree node (λ n. s.group ≡ n.group) → s.marks ≡ m → s.told ≡ rank_told (program_at s).push (told m)
+  pub path_node-made : {s : PathNode} {m : Marks} → s.node ≡ node → HasAt tree node (λ n. program_at s ≡ n.program) → HasAt tree node (λ n. s.group ≡ n.group) → s.marks ≡ m → s.told ≡ rank_told (program_at s).push (told m)
       → IsForm (program_at s) (program_at s).push s.push → IsForm (program_at s) (program_at s).pop s.pop
-      → told m ≡ marks_on (part_at tree (take level c.leaf)) (drop level c.leaf) c → IsWaypoint tree c level s
-  waypoint-made {s} is-node program group marks rank push pop on = record {
+      → told m ≡ marks_on (part_at tree (take level c.leaf)) (drop level c.leaf) c → IsPathNode tree c level s
+  path_node-made {s} is-node program group marks rank push pop on = record {
     node = is-node ∙ r.number;
     program = some-and _ _ (λ n. program_at s ≡ n.program) node-there program;
     group = some-and _ _ (λ n. s.group ≡ n.group) node-there group;
