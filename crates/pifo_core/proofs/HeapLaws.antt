@@ -1,5 +1,5 @@
 -- A queue in a run and a heap: after a push, and after a pop.
-use Rattle.pifo_core.proofs.Prelude.{top_of, arith, ◌≡◌, ap, ◌∙◌, false, length, ◌<◌, ◌≤◌, [], refl, sym, true, Some, map, ◌∷◌, List, get_or, suc, zero, ℕ, ◌+◌, inl, inr, ◌++◌, subst, eq-or-lt_of_le, nat_tests, All-from_recursion, recursion_from_All, IsDistinct-IsPermutation, AllByRecursion, IsPermutation, Reverse, put, take_least, held_of_both, IsHeaped, TopIsFirst, arrived_together, leads, heap_order, held_of, leaving_order, queue_of, ArrivedBefore, InLeavingOrder, Leaves, wide, Held}
+use Rattle.pifo_core.proofs.Prelude.{top_of, arith, ◌≡◌, ap, ◌∙◌, false, length, ◌<◌, ◌≤◌, [], refl, sym, true, Some, map, ◌∷◌, List, get_or, suc, ℕ, ◌+◌, inl, inr, ◌++◌, subst, eq-or-lt_of_le, nat_tests, All-from_recursion, recursion_from_All, IsDistinct-IsPermutation, AllByRecursion, IsPermutation, Reverse, put, take_least, held_of_both, IsHeaped, IsUpTo, TopIsFirst, arrived_together, leads, heap_order, held_of, leaving_order, queue_of, ArrivedBefore, InLeavingOrder, Leaves, wide, Held}
 use Rattle.std.specs.List.{IsDistinct}
 use Rattle.std.specs.Ordering.{is_lt}
 use Rattle.std.specs.BinaryHeap.{IsHeap, IsUpperBound}
@@ -50,24 +50,12 @@ behind_all (e ∷ run) b rest = ap (λ l. wide e ∷ l) (behind_all run b rest)
 behind : (run : List Brief) (b : Brief) → map wide (run ++ b ∷ []) ≡ map wide run ++ wide b ∷ []
 behind run b = map-append wide run (b ∷ [])
 
--- no rank in the run is above that of its last entry
-pub ranks_below_last : (run : List Brief) (n : ℕ) (d b : Brief) (r : ℕ) → n + 1 ≡ length run → InLeavingOrder (map wide run) → b ≡ get_or run n d → b.rank ≤ r → AllByRecursion (λ (e : Held). e.rank ≤ r) (map wide run)
-ranks_below_last [] n d b r long ordered at le = tt
-ranks_below_last (e ∷ []) n d b r long ordered at le =
-    let first : n ≡ 0 = omega (arith, long) in
-    let same : e.rank ≡ b.rank = sym (ap (λ z. z.rank) (rw first at at)) in
-    (omega (arith, same, le), tt)
-ranks_below_last (e ∷ f ∷ run) zero d b r long ordered at le = absurd (omega (arith, long))
-ranks_below_last (e ∷ f ∷ run) (suc n) d b r long ordered at le =
-    let rest : AllByRecursion (λ (z : Held). z.rank ≤ r) (map wide (f ∷ run)) = ranks_below_last (f ∷ run) n d b r (omega (arith, long)) ordered.1 at le in
-    (omega (arith, ordered.0.0, rest.0), rest)
-
-pub ranks_below_none : (run : List Brief) (r : ℕ) → length run ≡ 0 → AllByRecursion (λ (e : Held). e.rank ≤ r) (map wide run)
-ranks_below_none [] r none = tt
-ranks_below_none (e ∷ run) r none = absurd (omega (arith, none))
+-- no rank in the run is above that of an entry appended to it
+pub IsUpTo-followed : (b : Brief) (run : List Brief) → IsUpTo b.rank run → IsUpTo b.rank (run ++ b ∷ [])
+IsUpTo-followed b run before = rw (behind run b) (All-append (λ (e : Held). e.rank ≤ b.rank) (map wide run) (wide b ∷ []) before (omega arith, tt))
 
 -- an entry that arrives now, appended to the run
-module _ (b : Brief) (run : List Brief) (items : List (Reverse Held)) (kept : IsHeaped run items b.arrival) (before : AllByRecursion (λ (e : Held). e.rank ≤ b.rank) (map wide run)) where
+module _ (b : Brief) (run : List Brief) (items : List (Reverse Held)) (kept : IsHeaped run items b.arrival) (before : IsUpTo b.rank run) where
   joined_behind : IsPermutation (map wide run ++ wide b ∷ held_of items) (held_of_both (run ++ b ∷ []) items)
   joined_behind = rw (behind_all run b (held_of items)) (IsPermutation-refl _)
 
@@ -84,15 +72,15 @@ module _ (b : Brief) (run : List Brief) (items : List (Reverse Held)) (kept : Is
         earlier = earlier-arrived (wide b) (map wide run) (held_of items) (held_of_both (run ++ b ∷ []) items) kept.apart kept.earlier joined_behind;
       }
 
-module _ (x : Held) (b : Brief) (same : wide b ≡ x) (run : List Brief) (items : List (Reverse Held)) (kept : IsHeaped run items x.arrival) (before : AllByRecursion (λ (e : Held). e.rank ≤ x.rank) (map wide run)) where
+module _ (x : Held) (b : Brief) (same : wide b ≡ x) (run : List Brief) (items : List (Reverse Held)) (kept : IsHeaped run items x.arrival) (before : IsUpTo x.rank run) where
   pub queue_of-followed : queue_of (held_of_both (run ++ b ∷ []) items) ≡ put (queue_of (held_of_both run items)) x.rank x.value
   queue_of-followed =
-      subst (λ (z : Held). IsHeaped run items z.arrival → AllByRecursion (λ (e : Held). e.rank ≤ z.rank) (map wide run) → queue_of (held_of_both (run ++ b ∷ []) items) ≡ put (queue_of (held_of_both run items)) z.rank z.value)
+      subst (λ (z : Held). IsHeaped run items z.arrival → IsUpTo z.rank run → queue_of (held_of_both (run ++ b ∷ []) items) ≡ put (queue_of (held_of_both run items)) z.rank z.value)
       same (queue_of-behind b run items) kept before
 
   pub IsHeaped-followed : IsHeaped (run ++ b ∷ []) items (x.arrival + 1)
   IsHeaped-followed =
-      subst (λ (z : Held). IsHeaped run items z.arrival → AllByRecursion (λ (e : Held). e.rank ≤ z.rank) (map wide run) → IsHeaped (run ++ b ∷ []) items (z.arrival + 1))
+      subst (λ (z : Held). IsHeaped run items z.arrival → IsUpTo z.rank run → IsHeaped (run ++ b ∷ []) items (z.arrival + 1))
       same (IsHeaped-behind b run items) kept before
 
 -- an entry that arrives now, added to the heap

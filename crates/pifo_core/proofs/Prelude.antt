@@ -8,6 +8,6 @@ pub use Rattle.std.specs.List.{AllByRecursion, AllWithin, swap}
 pub use Rattle.std.specs.List.Sorted.{IsPermutation, IsPartitionPoint}
 pub use Rattle.std.specs.declared.cmp.Reverse.{Reverse}
 pub use Rattle.tree_defs.specs.Queue.{put, take_least, Queue, Taking}
-pub use Rattle.pifo_core.specs.Heaped.{held_of_both, IsHeaped, TopIsFirst, top_of, arrived_together, leads, heap_order, held_of, leaving_order}
+pub use Rattle.pifo_core.specs.Heaped.{held_of_both, IsHeaped, IsUpTo, TopIsFirst, top_of, arrived_together, leads, heap_order, held_of, leaving_order}
 pub use Rattle.pifo_core.specs.Held.{queue_of, ArrivedBefore, InLeavingOrder, Leaves, in_arrival_order, pair, placed, wide}
 pub use Rattle.pifo_core.specs.declared.held.Held.{Held}

@@ -1,6 +1,6 @@
 -- The invariant of a queue kept in a run and a binary heap.
-use Rattle.std.specs.Prelude.{ℕ, List, [], ◌∷◌, ◌++◌, map, Bool, false, true, nat_eq}
-use Rattle.std.specs.List.{IsDistinct}
+use Rattle.std.specs.Prelude.{◌≤◌, ℕ, List, [], ◌∷◌, ◌++◌, map, Bool, false, true, nat_eq}
+use Rattle.std.specs.List.{AllByRecursion, IsDistinct}
 use Rattle.std.specs.BinaryHeap.{IsHeap, IsUpperBound}
 use Rattle.std.specs.declared.cmp.Ordering.{Ordering}
 use Rattle.std.specs.Ordering.{nat_cmp, ordering_then, is_lt}
@@ -46,6 +46,10 @@ abbrev pub leads : List Brief → List (Reverse Held) → Bool
 leads [] items = false
 leads (first ∷ run) [] = true
 leads (first ∷ run) (top ∷ items) = is_lt (leaving_order (wide first) top.0)
+
+-- no rank in the run is above this one
+abbrev pub IsUpTo : ℕ → List Brief → Type 0
+IsUpTo last run = AllByRecursion (λ (e : Held). e.rank ≤ last) (map wide run)
 
 pub record IsHeaped (run : List Brief) (items : List (Reverse Held)) (pushed : ℕ) : Type 0 where
   pub in_order : InLeavingOrder (map wide run)

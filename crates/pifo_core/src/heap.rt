@@ -1,9 +1,9 @@
 //! A queue that keeps in-order arrivals in a FIFO and the others in a binary heap.
-ghost use Rattle.std.specs.Prelude.{◌≡◌, ◌+◌, ◌≤◌, ◌<◌, ◌↔◌, [], ◌∷◌, map, IfNone, IfSome, OnOk, OnSome, IsSome, slice_index_or};
+ghost use Rattle.std.specs.Prelude.{◌≡◌, ◌+◌, ◌≤◌, ◌<◌, ◌↔◌, true, [], ◌∷◌, map, IfNone, IfSome, OnOk, OnSome, IsSome, slice_index_or};
 ghost use Rattle.std.specs.List.Sorted.{IsPermutation};
 ghost use Rattle.std.specs.BinaryHeap.{heap_items, heap_len, heap_capacity, IsHeap, IsUpperBound, KeepsHeap, PopsGreatest, HeapUnchanged};
 ghost use Rattle.pifo_core.specs.Held.{wide, InLeavingOrder};
-ghost use Rattle.pifo_core.specs.Heaped.{leads, heap_order, aside, top_of, TopIsFirst};
+ghost use Rattle.pifo_core.specs.Heaped.{leads, heap_order, aside, top_of, TopIsFirst, IsUpTo};
 
 use crate::held::{Brief, Held};
 use crate::pifo::Pifo;
@@ -29,6 +29,8 @@ pub struct HeapPifo {
     /// The number of pushes for which there is room. `BinaryHeap` only guarantees that a push
     /// doesn't reduce its capacity.
     spare: usize,
+    /// The rank that was last appended to the run. No rank in the run is above it.
+    last: u64,
 }
 
 impl Model for HeapPifo {
@@ -36,14 +38,14 @@ impl Model for HeapPifo {
     ghost use Rattle.std.specs.BinaryHeap.{heap_items, heap_len, heap_capacity};
     ghost use Rattle.std.specs.VecDeque.{deque_len, deque_capacity};
     ghost use Rattle.pifo_core.specs.Held.{queue_of};
-    ghost use Rattle.pifo_core.specs.Heaped.{IsHeaped, held_of_both};
+    ghost use Rattle.pifo_core.specs.Heaped.{IsHeaped, IsUpTo, held_of_both};
     ghost use Rattle.pifo_core.specs.Sorted.{Contents};
 
     ghost Value = { Contents };
 
     ghost view = { λ h. record { entries = queue_of (held_of_both h.run.items (heap_items h.heap)); pushes = h.pushed; spare = h.spare } };
 
-    ghost invariant = { λ h. IsHeaped h.run.items (heap_items h.heap) h.pushed × (deque_len h.run + h.spare ≤ deque_capacity h.run) × (heap_len h.heap + h.spare ≤ heap_capacity h.heap) };
+    ghost invariant = { λ h. IsHeaped h.run.items (heap_items h.heap) h.pushed × (deque_len h.run + h.spare ≤ deque_capacity h.run) × (heap_len h.heap + h.spare ≤ heap_capacity h.heap) × IsUpTo h.last h.run.items };
 }
 
 impl HeapPifo {
@@ -57,6 +59,7 @@ impl HeapPifo {
             heap: BinaryHeap::new(alloc),
             pushed: 0,
             spare: 0,
+            last: 0,
         }
     }
 
@@ -98,10 +101,7 @@ impl Pifo for HeapPifo {
 
     #[inline(always)]
     fn push(&mut self, rank: u64, value: u64) {
-        let in_order = match self.run.back() {
-            Some(last) => last.rank <= rank,
-            None => true,
-        };
+        let in_order = is_behind(&self.run, self.last, rank);
         match (u32::try_from(self.pushed), u32::try_from(value)) {
             // Both parts have room for one more entry, so neither push can fail.
             (Ok(arrival), Ok(value)) if in_order => {
@@ -111,6 +111,7 @@ impl Pifo for HeapPifo {
                     value,
                 };
                 self.run.push_back_reserved(brief);
+                self.last = rank;
             }
             _ => {
                 push_aside(&mut self.heap, rank, self.pushed, value);
@@ -140,6 +141,16 @@ impl Pifo for HeapPifo {
     fn pushed(&self) -> u64 {
         self.pushed
     }
+}
+
+/// Returns whether an entry of this rank can be appended to the run, in which no rank is above
+/// `last`.
+#[inline(always)]
+fn is_behind(run: &VecDeque<Brief>, last: u64, rank: u64) -> bool
+    requires last { IsUpTo last run.now.items }
+    ensures behind { result ≡ true → IsUpTo rank run.now.items }
+{
+    last <= rank || run.is_empty()
 }
 
 /// Adds an entry to the heap, which has room for it. It takes the entry's fields, so that none is

@@ -10,6 +10,7 @@ invariant_of-self-then-run_leads c =
       IsHeaped-led c.in_ok-first.first c.pop_front.new.self.items (heap_items c.self.inside.heap) c.self.inside.pushed (rw items at c.self.invariant.0),
       omega (arith, c.in_ok-first.ensures.len, c.in_ok-first.ensures.capacity, c.self.invariant),
       omega (arith, c.self.invariant),
+      (rw items at c.self.invariant.3).1,
     )
 
 pub returns-then-run_leads-clause-taken : goal.returns-then-run_leads-clause-taken
@@ -35,6 +36,7 @@ invariant_of-self-2 c = (
   IsHeaped-popped (top_of (heap_items c.self.inside.heap)) c.self.inside.run.items (heap_items c.self.inside.heap) (heap_items c.drop_top.new.heap) c.self.inside.pushed c.self.invariant.0 c.drop_top.ensures.permutation (c.drop_top.ensures.heap_order c.self.invariant.0.in_heap).0,
   omega (arith, c.self.invariant),
   omega (arith, c.drop_top.ensures.len, c.drop_top.ensures.capacity, c.self.invariant),
+  c.self.invariant.3,
 )
 
 pub returns-clause-taken : goal.returns-clause-taken
