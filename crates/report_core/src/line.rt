@@ -12,64 +12,83 @@ pub const LINE: usize = 2_048;
 /// Room for the digits of any number, in bytes.
 const DIGITS: usize = 20;
 
-/// The digits of a number without its last one, stored for the next number. Numbers such as those of
-/// events follow one another, and the next one often differs only in its last digit.
+/// The two digits of each number below 100.
+static PAIRS: [u8; 200] =
+    *b"00010203040506070809101112131415161718192021222324252627282930313233343536373839404142434445464748495051525354555657585960616263646566676869707172737475767778798081828384858687888990919293949596979899";
+
+/// The digits of a number without its last two, stored for the next number. Numbers such as those of
+/// events follow one another, and the next one often differs only in its last two digits.
 #[derive(Drop)]
-pub struct Tens {
+pub struct Hundreds {
     /// The least number with these digits.
     least: u64,
     count: usize,
     digits: [u8; DIGITS],
 }
 
-impl Model for Tens {
+impl Model for Hundreds {
     ghost use Rattle.std.specs.Prelude.{ℕ};
-    ghost use Rattle.report_core.specs.Digits.{AreTens};
+    ghost use Rattle.report_core.specs.Digits.{AreHundreds};
 
     ghost Value = { ℕ };
 
-    ghost view = { λ t. t.least };
+    ghost view = { λ h. h.least };
 
-    ghost invariant = { λ t. AreTens t.least t.count t.digits };
+    ghost invariant = { λ h. AreHundreds h.least h.count h.digits };
 }
 
-impl Tens {
-    pub fn new() -> Tens {
-        Tens {
-            least: 0,
-            count: 0,
-            digits: [0; DIGITS],
+impl Hundreds {
+    pub fn new() -> Hundreds {
+        let mut digits = [0; DIGITS];
+        digits[0] = b'1';
+        Hundreds {
+            least: 100,
+            count: 1,
+            digits,
         }
     }
 
     /// Writes the digits of a number and the byte after them.
     #[inline(always)]
     pub fn put(&mut self, line: &mut [u8], at: usize, value: u64, after: u8) -> usize
-        requires room { at + 22 ≤ length line.old }
+        requires room { at + 23 ≤ length line.old }
         ensures text { take result line.new ≡ take at line.old ++ decimal value ++ after ∷ [] }
-        ensures short { result ≤ at + 22 }
+        ensures short { result ≤ at + 23 }
         ensures length { length line.new ≡ length line.old }
     {
-        if value < self.least || value - self.least >= 10 {
+        if value < self.least || value - self.least >= 100 {
+            if value < 100 {
+                return put_small(line, at, value, after);
+            }
             self.renew(value);
         }
         put_array(line, at, self.digits);
-        let last = b'0' + (value - self.least) as u8;
-        put_array(line, at + self.count, [last, after])
+        let pair = 2 * (value - self.least) as usize;
+        let last = [PAIRS[pair], PAIRS[pair + 1], after];
+        put_array(line, at + self.count, last)
     }
 
     #[cold]
     fn renew(&mut self, value: u64)
-        ensures near { self.new ≡ 10 * (value / 10) }
+        requires some { 100 ≤ value }
+        ensures near { self.new ≡ 100 * (value / 100) }
     {
-        let tens = value / 10;
-        self.least = 10 * tens;
-        self.count = if tens == 0 {
-            0
-        } else {
-            put_number(&mut self.digits, 0, tens)
-        };
+        let hundreds = value / 100;
+        self.least = 100 * hundreds;
+        self.count = put_number(&mut self.digits, 0, hundreds);
     }
+}
+
+/// Writes the digits of any number and the byte after them.
+#[cold]
+fn put_small(line: &mut [u8], at: usize, value: u64, after: u8) -> usize
+    requires room { at + 23 ≤ length line.old }
+    ensures text { take result line.new ≡ take at line.old ++ decimal value ++ after ∷ [] }
+    ensures short { result ≤ at + 23 }
+    ensures length { length line.new ≡ length line.old }
+{
+    let end = put_number(line, at, value);
+    put_array(line, end, [after])
 }
 
 /// Writes a fixed number of bytes at an offset, and returns the offset after them.

@@ -10,7 +10,7 @@ ghost use Rattle.report_core.specs.Gathered.{limit, text_of, Tells, CutsOff, Fai
 use crate::buffer::Buffer;
 use crate::fault::{FaultKind, WriteFault};
 use crate::last::{put_end, put_fault};
-use crate::line::{Tens, put_array, put_name, put_ranks, put_start};
+use crate::line::{Hundreds, put_array, put_name, put_ranks, put_start};
 use outside_core::Sink;
 use std::alloc::{AllocError, Global};
 use std::marker::Model;
@@ -20,9 +20,9 @@ use std::marker::Model;
 #[derive(Drop)]
 pub struct Report {
     buffer: Buffer,
-    events: Tens,
-    arrivals: Tens,
-    departures: Tens,
+    events: Hundreds,
+    arrivals: Hundreds,
+    departures: Hundreds,
 }
 
 impl Model for Report {
@@ -43,9 +43,9 @@ impl Report {
     {
         Ok(Report {
             buffer: Buffer::new(alloc)?,
-            events: Tens::new(),
-            arrivals: Tens::new(),
-            departures: Tens::new(),
+            events: Hundreds::new(),
+            arrivals: Hundreds::new(),
+            departures: Hundreds::new(),
         })
     }
 
