@@ -2,7 +2,7 @@
 ghost use Rattle.std.specs.Prelude.{◌≡◌, IfOk};
 
 use crate::block::BlockPifo;
-use fabric_core::{Fabric, empty_queues, pop_along, push_along, reserve_along};
+use fabric_core::{Fabric, Shape, empty_queues, pop_along, push_along, reserve_along};
 use std::alloc::{AllocError, Global};
 use std::marker::Model;
 
@@ -11,7 +11,7 @@ use std::marker::Model;
 #[derive(Drop)]
 pub struct BlockFabric {
     alloc: Global,
-    arities: Vec<u32>,
+    shape: Shape,
     queues: Vec<BlockPifo>,
     pushed: u64,
     popped: u64,
@@ -24,14 +24,14 @@ impl Model for BlockFabric {
     ghost Value = { BlockTree };
 
     ghost view = { λ f. record {
-      arities = f.arities.items;
+      arities = f.shape;
       queues = f.queues.items;
       pushed = f.pushed;
       popped = f.popped;
       spilled = f.spilled;
     } };
 
-    ghost invariant = { λ f. IsBlockTree f.arities.items f.queues.items f.pushed f.spilled };
+    ghost invariant = { λ f. IsBlockTree f.shape f.queues.items f.pushed f.spilled };
 }
 
 impl BlockFabric {
@@ -43,7 +43,7 @@ impl BlockFabric {
     {
         Ok(BlockFabric {
             alloc,
-            arities: Vec::new(alloc),
+            shape: Shape::new(alloc, &[])?,
             queues: empty_queues(alloc, &[])?,
             pushed: 0,
             popped: 0,
@@ -77,24 +77,24 @@ impl Fabric for BlockFabric {
 
     fn configure(&mut self, arities: &[u32]) -> Result<(), AllocError> {
         let queues = empty_queues(self.alloc, arities)?;
-        self.arities = arities.to_vec(self.alloc)?;
+        self.shape = Shape::new(self.alloc, arities)?;
         self.queues = queues;
         Ok(())
     }
 
     fn reserve(&mut self, digits: &[u32]) -> Result<(), AllocError> {
-        reserve_along(&mut self.queues, &self.arities, digits)
+        reserve_along(&mut self.queues, &self.shape, digits)
     }
 
     fn push(&mut self, digits: &[u32], ranks: &[u64], item: u64) {
-        let spilled = push_along(&mut self.queues, &self.arities, digits, ranks, item);
+        let spilled = push_along(&mut self.queues, &self.shape, digits, ranks, item);
         self.spilled += u128::from(spilled);
         self.pushed += 1;
     }
 
     fn pop(&mut self, digits: &mut [u32], ranks: &mut [u64]) -> Option<u64> {
         self.popped += 1;
-        pop_along(&mut self.queues, &self.arities, digits, ranks)
+        pop_along(&mut self.queues, &self.shape, digits, ranks)
     }
 
     fn pushes(&self) -> u64 {

@@ -1,6 +1,7 @@
 pub mod Prelude
 pub mod ArrayReads
 pub mod ArrayUpdates
+mod ChildSteps
 pub mod FabricLaws
 mod FlowLaws
 mod LevelSteps

@@ -3,6 +3,7 @@ use Rattle.fabric_core.proofs.Prelude.{ℕ, arith, ◌≡◌, List, ◌+◌, [],
 use Rattle.fabric_core.proofs.ArrayReads.{read-root}
 use Rattle.fabric_core.proofs.FlowLaws.{names-taken, child-waits}
 use Rattle.fabric_core.proofs.PopLaws.{queues-child, flow-child}
+use Rattle.fabric_core.proofs.ChildSteps.{first_level}
 use Rattle.fabric_core.proofs.LevelWalks.{IsAt, at_index, at_child}
 use Rattle.fabric_core.proofs.ArrayUpdates.{entries-at, entries-set, entries_stay}
 use Rattle.fabric_core.specs.Paths.{PopsNothing}
@@ -50,7 +51,7 @@ module _ {Q : Type 0} (node : Ghosts Q) where
       → IsFlow arities (queues_at arities (map node.entries old) 0 1 0) → IsPopping node arities old old digits ranks 0 0 1 0
   popping_first arities old digits ranks count ld lr flow =
       record {
-        here = record { within = omega arith; counted = omega (arith, count) };
+        here = record { within = omega arith; counted = omega (arith, count); children = first_level arities };
         count = refl;
         digits_long = ld;
         ranks_long = lr;

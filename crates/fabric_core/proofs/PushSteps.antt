@@ -1,6 +1,7 @@
 -- The loop of a push.
 use Rattle.fabric_core.proofs.Prelude.{ℕ, arith, ◌≡◌, List, ◌+◌, [], length, sym, ap, get_or, ◌∙◌, subst, ◌<◌, ◌∷◌, ◌*◌, ◌≤◌, map, refl, drop, set, get_or-set_other, length-set, ◌^◌, drop_more, drop_all, get_or-drop, AllByRecursion, fun_ext, Address, IsLeafAddress, HasRoomAlong, Queue, put, nodes, room_at, array_push, put_at, Ghosts}
 use Rattle.fabric_core.proofs.ArrayReads.{read-below, read-same}
+use Rattle.fabric_core.proofs.ChildSteps.{first_level}
 use Rattle.fabric_core.proofs.LevelWalks.{IsAt, at_index, at_child, leaf_length, digit_below}
 use Rattle.fabric_core.proofs.ArrayUpdates.{entries-put, spare-at, pushes-at, pushes-set, spare-set, bound-at, bound-set, bound-more}
 
@@ -87,7 +88,7 @@ module _ {Q : Type 0} (node : Ghosts Q) where
       → AllByRecursion (λ n. n < 2 ^ 62) (map node.pushes old) → IsPushing node arities digits ranks item old old 0 0 1 0
   pushing_first arities digits ranks item old count room few =
       record {
-        here = record { within = omega arith; counted = omega (arith, count) };
+        here = record { within = omega arith; counted = omega (arith, count); children = first_level arities };
         count = refl;
         room = room;
         pushing = refl;

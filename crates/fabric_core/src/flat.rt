@@ -2,6 +2,7 @@
 ghost use Rattle.std.specs.Prelude.{IfOk};
 
 use crate::fabric::Fabric;
+use crate::shape::Shape;
 use crate::walk::{empty_queues, pop_along, push_along, reserve_along};
 use pifo_core::HeapPifo;
 use std::alloc::{AllocError, Global};
@@ -11,7 +12,7 @@ use std::marker::Model;
 #[derive(Drop)]
 pub struct FlatFabric {
     alloc: Global,
-    arities: Vec<u32>,
+    shape: Shape,
     queues: Vec<HeapPifo>,
     pushed: u64,
     popped: u64,
@@ -23,9 +24,9 @@ impl Model for FlatFabric {
 
     ghost Value = { Flat };
 
-    ghost view = { λ f. record { arities = f.arities.items; queues = f.queues.items; pushed = f.pushed; popped = f.popped } };
+    ghost view = { λ f. record { arities = f.shape; queues = f.queues.items; pushed = f.pushed; popped = f.popped } };
 
-    ghost invariant = { λ f. IsSound f.arities.items (entries_of f.queues.items) (pushes_of f.queues.items) f.pushed };
+    ghost invariant = { λ f. IsSound f.shape (entries_of f.queues.items) (pushes_of f.queues.items) f.pushed };
 }
 
 impl FlatFabric {
@@ -37,7 +38,7 @@ impl FlatFabric {
     {
         Ok(FlatFabric {
             alloc,
-            arities: Vec::new(alloc),
+            shape: Shape::new(alloc, &[])?,
             queues: empty_queues(alloc, &[])?,
             pushed: 0,
             popped: 0,
@@ -63,26 +64,26 @@ impl Fabric for FlatFabric {
 
     fn configure(&mut self, arities: &[u32]) -> Result<(), AllocError> {
         let queues = empty_queues(self.alloc, arities)?;
-        self.arities = arities.to_vec(self.alloc)?;
+        self.shape = Shape::new(self.alloc, arities)?;
         self.queues = queues;
         Ok(())
     }
 
     #[inline(always)]
     fn reserve(&mut self, digits: &[u32]) -> Result<(), AllocError> {
-        reserve_along(&mut self.queues, &self.arities, digits)
+        reserve_along(&mut self.queues, &self.shape, digits)
     }
 
     #[inline(always)]
     fn push(&mut self, digits: &[u32], ranks: &[u64], item: u64) {
-        push_along(&mut self.queues, &self.arities, digits, ranks, item);
+        push_along(&mut self.queues, &self.shape, digits, ranks, item);
         self.pushed += 1;
     }
 
     #[inline(always)]
     fn pop(&mut self, digits: &mut [u32], ranks: &mut [u64]) -> Option<u64> {
         self.popped += 1;
-        pop_along(&mut self.queues, &self.arities, digits, ranks)
+        pop_along(&mut self.queues, &self.shape, digits, ranks)
     }
 
     fn pushes(&self) -> u64 {

@@ -1,6 +1,5 @@
 //! The queues of a complete tree in an array, level after level: how they are made, and the walks
-//! from the root to a leaf. A walk has `begin` nodes before the level that it has reached, the level
-//! has `width` nodes, and the walk is at the one with index `place` of these.
+//! from the root to a leaf.
 ghost use Rattle.std.specs.Prelude.{ℕ, ◌≡◌, ◌≤◌, ◌<◌, ◌+◌, ◌^◌, [], true, length, map, slice_index_or, IfOk, OnOk, IfNone, IfSome};
 ghost use Rattle.std.specs.List.{AllByRecursion};
 ghost use Rattle.embed_defs.specs.Family.{IsLeafAddress, HasRoomAlong};
@@ -10,69 +9,65 @@ ghost use Rattle.fabric_core.specs.Flow.{IsFlow, HasFlows};
 ghost use Rattle.fabric_core.specs.Paths.{HoldsTree, LeadsToLeaf, HasPlaces, PopsNothing, CountsSpills};
 
 use crate::node::NodeQueue;
+use crate::shape::Shape;
 use std::alloc::{AllocError, Global};
 
 /// Makes room for one more entry at each node on the path to a leaf.
 #[inline(always)]
 pub fn reserve_along<Q: NodeQueue>(
     queues: &mut [Q],
-    arities: &[u32],
+    shape: &Shape,
     digits: &[u32],
 ) -> Result<(), AllocError>
-    requires leaf { IsLeafAddress arities.now digits.now }
-    requires array { HoldsTree arities.now (length queues.old) }
-    ensures room { OnOk result (HasRoomAlong (room_at arities.now (map Q.spare queues.new) 0 1 0)
+    requires leaf { IsLeafAddress shape.now digits.now }
+    requires array { HoldsTree shape.now (length queues.old) }
+    ensures room { OnOk result (HasRoomAlong (room_at shape.now (map Q.spare queues.new) 0 1 0)
         digits.now) }
-    ensures kept { ArrayKeepsRoom arities.now (map Q.spare queues.old) (map Q.spare queues.new) }
+    ensures kept { ArrayKeepsRoom shape.now (map Q.spare queues.old) (map Q.spare queues.new) }
     ensures entries { map Q.entries queues.new ≡ map Q.entries queues.old }
     ensures pushes { map Q.pushes queues.new ≡ map Q.pushes queues.old }
     ensures flows { map Q.flows queues.new ≡ map Q.flows queues.old }
 {
-    let (mut begin, mut width, mut place) = (0, 1, 0);
-    for (level, digit) in digits.iter().enumerate() {
-        queues[begin + place].make_room()?;
-        let arity = arities[level] as usize;
-        begin += width;
-        width *= arity;
-        place = place * arity + *digit as usize;
+    let mut node = 0;
+    for digit in digits {
+        queues[node].make_room()?;
+        node = shape.child(node, *digit);
     }
-    queues[begin + place].make_room()
+    queues[node].make_room()
 }
 
 /// Pushes a rank and the next digit at each inner node on the path to a leaf, and the last rank and
 /// the item at the leaf. Returns the number of nodes at which the push spilled, if the queues
 /// report spills.
+#[inline(always)]
 pub fn push_along<Q: NodeQueue>(
     queues: &mut [Q],
-    arities: &[u32],
+    shape: &Shape,
     digits: &[u32],
     ranks: &[u64],
     item: u64,
 ) -> u64
-    requires path { LeadsToLeaf arities.now digits.now ranks.now }
-    requires array { HoldsTree arities.now (length queues.old) }
-    requires room { HasRoomAlong (room_at arities.now (map Q.spare queues.old) 0 1 0) digits.now }
+    requires path { LeadsToLeaf shape.now digits.now ranks.now }
+    requires array { HoldsTree shape.now (length queues.old) }
+    requires room { HasRoomAlong (room_at shape.now (map Q.spare queues.old) 0 1 0) digits.now }
     requires few { AllByRecursion (λ n. n < 2 ^ 62) (map Q.pushes queues.old) }
-    ensures entries { map Q.entries queues.new ≡ array_push arities.now (map Q.entries queues.old) 0
+    ensures entries { map Q.entries queues.new ≡ array_push shape.now (map Q.entries queues.old) 0
         1 0 digits.now ranks.now item }
     ensures pushes { (n : ℕ) →
         AllByRecursion (λ k. k ≤ n) (map Q.pushes queues.old) → AllByRecursion (λ k. k ≤ n + 1) (map Q.pushes queues.new) }
-    ensures less_room { ArrayTakesRoom arities.now digits.now (map Q.spare queues.old)
+    ensures less_room { ArrayTakesRoom shape.now digits.now (map Q.spare queues.old)
         (map Q.spare queues.new) }
-    ensures spills { CountsSpills arities.now digits.now ranks.now (map Q.entries queues.old)
+    ensures spills { CountsSpills shape.now digits.now ranks.now (map Q.entries queues.old)
         (map Q.flows queues.old) (map Q.flows queues.new) result }
 {
-    let (mut begin, mut width, mut place) = (0, 1, 0);
+    let mut node = 0;
     let mut spilled = 0;
     for (level, digit) in digits.iter().enumerate() {
-        let spills = queues[begin + place].push_pair(ranks[level], u64::from(*digit));
+        let spills = queues[node].push_pair(ranks[level], u64::from(*digit));
         spilled += u64::from(spills);
-        let arity = arities[level] as usize;
-        begin += width;
-        width *= arity;
-        place = place * arity + *digit as usize;
+        node = shape.child(node, *digit);
     }
-    let spills = queues[begin + place].push_pair(ranks[digits.len()], item);
+    let spills = queues[node].push_pair(ranks[digits.len()], item);
     spilled + u64::from(spills)
 }
 
@@ -81,33 +76,31 @@ pub fn push_along<Q: NodeQueue>(
 #[inline(always)]
 pub fn pop_along<Q: NodeQueue>(
     queues: &mut [Q],
-    arities: &[u32],
+    shape: &Shape,
     digits: &mut [u32],
     ranks: &mut [u64],
 ) -> Option<u64>
-    requires path { HasPlaces arities.now digits.old ranks.old }
-    requires array { HoldsTree arities.now (length queues.old) }
-    requires flow { IsFlow arities.now (queues_at arities.now (map Q.entries queues.old) 0 1 0) }
-    ensures none { IfNone result (PopsNothing arities.now (map Q.entries queues.old)
+    requires path { HasPlaces shape.now digits.old ranks.old }
+    requires array { HoldsTree shape.now (length queues.old) }
+    requires flow { IsFlow shape.now (queues_at shape.now (map Q.entries queues.old) 0 1 0) }
+    ensures none { IfNone result (PopsNothing shape.now (map Q.entries queues.old)
         (map Q.entries queues.new) digits.old digits.new ranks.old ranks.new) }
-    ensures popped { IfSome result (λ item. ArrayPops arities.now (map Q.entries queues.old) item
+    ensures popped { IfSome result (λ item. ArrayPops shape.now (map Q.entries queues.old) item
         digits.new ranks.new (map Q.entries queues.new)) }
     ensures pushes { map Q.pushes queues.new ≡ map Q.pushes queues.old }
-    ensures kept { ArrayKeepsRoom arities.now (map Q.spare queues.old) (map Q.spare queues.new) }
+    ensures kept { ArrayKeepsRoom shape.now (map Q.spare queues.old) (map Q.spare queues.new) }
     ensures flows { map Q.flows queues.new ≡ map Q.flows queues.old }
 {
-    let (mut begin, mut width, mut place) = (0, 1, 0);
-    for (level, arity) in arities.iter().enumerate() {
-        let (rank, digit) = queues[begin + place].pop_pair()?;
+    let mut node = 0;
+    for level in 0..shape.height() {
+        let (rank, value) = queues[node].pop_pair()?;
+        let digit = value as u32;
         ranks[level] = rank;
-        digits[level] = digit as u32;
-        let arity = *arity as usize;
-        begin += width;
-        width *= arity;
-        place = place * arity + digit as usize;
+        digits[level] = digit;
+        node = shape.child(node, digit);
     }
-    let (rank, item) = queues[begin + place].pop_pair()?;
-    ranks[arities.len()] = rank;
+    let (rank, item) = queues[node].pop_pair()?;
+    ranks[shape.height()] = rank;
     Some(item)
 }
 

@@ -7,16 +7,16 @@ invariant_of-result c =
     let made = c.in_ok-empty_queues.ensures in
     record {
       sound =
-          new_sound c.new.result.items (entries_of qs) (pushes_of qs) 0 (ap (λ (z : List ℕ). nodes z) c.new.ensures.items ∙ made.nodes ∙ sym (length-map qs (λ (q : Block). q.entries)))
+          new_sound c.in_ok-new.field-0 (entries_of qs) (pushes_of qs) 0 (ap (λ (z : List ℕ). nodes z) c.in_ok-new.ensures.arities ∙ made.nodes ∙ sym (length-map qs (λ (q : Block). q.entries)))
           (omega (arith, made.small, length-map qs (λ (q : Block). q.entries))) made.entries made.pushes;
-      flows = subst (λ (z : List ℕ). HasFlows z (flows_at z (flows_of qs) 0 1 0)) (sym c.new.ensures.items) (made.flows refl);
+      flows = subst (λ (z : List ℕ). HasFlows z (flows_at z (flows_of qs) 0 1 0)) (sym c.in_ok-new.ensures.arities) (made.flows refl);
       few = omega arith;
     }
 
 pub returns : goal.returns
 returns c = record {
-  leaf = c.new.ensures.items;
-  empty = new_empty c.new.result.items (entries_of c.in_ok-empty_queues.field-0.items) c.in_ok-empty_queues.ensures.entries;
+  leaf = c.in_ok-new.ensures.arities;
+  empty = new_empty c.in_ok-new.field-0 (entries_of c.in_ok-empty_queues.field-0.items) c.in_ok-empty_queues.ensures.entries;
   pushed = refl;
   popped = refl;
   spilled = refl;

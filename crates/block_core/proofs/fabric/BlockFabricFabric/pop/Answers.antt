@@ -9,13 +9,12 @@ back : (c : goal.After-slice_known-4-1) → (with_items c.self.inside.queues c.p
 back c = with_items_is c.self.inside.queues c.pop_along.new.queues (omega (arith, c.pop_along.auto.queues, c.deref_mut.ensures.len))
 
 popped : (c : goal.After-slice_known-4-1)
-    → Popped c.self.inside.arities.items (entries_of c.self.inside.queues.items) (entries_of (with_items c.self.inside.queues c.pop_along.new.queues).items) c.pop_along.result c.args.digits.now c.pop_along.new.digits c.args.ranks.now c.pop_along.new.ranks
+    → Popped c.self.inside.shape (entries_of c.self.inside.queues.items) (entries_of (with_items c.self.inside.queues c.pop_along.new.queues).items) c.pop_along.result c.args.digits.now c.pop_along.new.digits c.args.ranks.now c.pop_along.new.ranks
 popped c =
     let f = c.self.inside in
-    let made : Popped c.deref.result.now (entries_of c.deref_mut.result.now) (entries_of c.pop_along.new.queues) c.pop_along.result c.args.digits.now c.pop_along.new.digits c.args.ranks.now c.pop_along.new.ranks
+    let made : Popped f.shape (entries_of c.deref_mut.result.now) (entries_of c.pop_along.new.queues) c.pop_along.result c.args.digits.now c.pop_along.new.digits c.args.ranks.now c.pop_along.new.ranks
     = record { none = c.pop_along.ensures.none; some = c.pop_along.ensures.popped } in
-    rw (back c) (subst (λ (z : List Block). Popped f.arities.items (entries_of z) (entries_of c.pop_along.new.queues) c.pop_along.result c.args.digits.now c.pop_along.new.digits c.args.ranks.now c.pop_along.new.ranks) c.deref_mut.ensures.value
-    (subst (λ (z : List ℕ). Popped z (entries_of c.deref_mut.result.now) (entries_of c.pop_along.new.queues) c.pop_along.result c.args.digits.now c.pop_along.new.digits c.args.ranks.now c.pop_along.new.ranks) c.deref.ensures.value made))
+    rw (back c) (subst (λ (z : List Block). Popped f.shape (entries_of z) (entries_of c.pop_along.new.queues) c.pop_along.result c.args.digits.now c.pop_along.new.digits c.args.ranks.now c.pop_along.new.ranks) c.deref_mut.ensures.value made)
 
 pub invariant_of-self : goal.invariant_of-self
 invariant_of-self c =
@@ -24,9 +23,9 @@ invariant_of-self c =
     = ap (λ (z : List Block). flows_of z) (back c) ∙ c.pop_along.ensures.flows ∙ ap (λ (z : List Block). flows_of z) c.deref_mut.ensures.value in
     record {
       sound =
-          popped_kept f.arities.items (entries_of f.queues.items) (entries_of (with_items f.queues c.pop_along.new.queues).items) (pushes_of f.queues.items) (pushes_of (with_items f.queues c.pop_along.new.queues).items) f.pushed c.pop_along.result c.args.digits.now c.pop_along.new.digits c.args.ranks.now c.pop_along.new.ranks c.self.invariant.sound (popped c)
+          popped_kept f.shape (entries_of f.queues.items) (entries_of (with_items f.queues c.pop_along.new.queues).items) (pushes_of f.queues.items) (pushes_of (with_items f.queues c.pop_along.new.queues).items) f.pushed c.pop_along.result c.args.digits.now c.pop_along.new.digits c.args.ranks.now c.pop_along.new.ranks c.self.invariant.sound (popped c)
           (ap (λ (z : List Block). pushes_of z) (back c) ∙ c.pop_along.ensures.pushes ∙ ap (λ (z : List Block). pushes_of z) c.deref_mut.ensures.value);
-      flows = subst (λ (z : List ℕ). HasFlows f.arities.items (flows_at f.arities.items z 0 1 0)) (sym flows) c.self.invariant.flows;
+      flows = subst (λ (z : List ℕ). HasFlows f.shape (flows_at f.shape z 0 1 0)) (sym flows) c.self.invariant.flows;
       few = c.self.invariant.few;
     }
 
@@ -34,24 +33,23 @@ pub returns-clause-none : goal.returns-clause-none
 returns-clause-none c =
     let f = c.self.inside in
     subst (λ (v : BlockTree). IsNone c.pop_along.result ↔ (block_queues v [] ≡ [])) c.self.view_is
-    (popped_none f.arities.items (entries_of f.queues.items) (entries_of (with_items f.queues c.pop_along.new.queues).items) c.pop_along.result c.args.digits.now c.pop_along.new.digits c.args.ranks.now c.pop_along.new.ranks (popped c))
+    (popped_none f.shape (entries_of f.queues.items) (entries_of (with_items f.queues c.pop_along.new.queues).items) c.pop_along.result c.args.digits.now c.pop_along.new.digits c.args.ranks.now c.pop_along.new.ranks (popped c))
 
 pub returns-clause-taken : goal.returns-clause-taken
 returns-clause-taken c =
     let f = c.self.inside in
-    subst (λ (v : BlockTree). IfSome c.pop_along.result (λ item. Pops (length v.arities) (block_queues v) item c.pop_along.new.digits c.pop_along.new.ranks (queues_at f.arities.items (entries_of (with_items f.queues c.pop_along.new.queues).items) 0 1 0))) c.self.view_is
-    (popped_taken f.arities.items (entries_of f.queues.items) (entries_of (with_items f.queues c.pop_along.new.queues).items) (pushes_of f.queues.items) f.pushed c.pop_along.result c.args.digits.now c.pop_along.new.digits c.args.ranks.now c.pop_along.new.ranks c.self.invariant.sound (popped c))
+    subst (λ (v : BlockTree). IfSome c.pop_along.result (λ item. Pops (length v.arities) (block_queues v) item c.pop_along.new.digits c.pop_along.new.ranks (queues_at f.shape (entries_of (with_items f.queues c.pop_along.new.queues).items) 0 1 0))) c.self.view_is
+    (popped_taken f.shape (entries_of f.queues.items) (entries_of (with_items f.queues c.pop_along.new.queues).items) (pushes_of f.queues.items) f.pushed c.pop_along.result c.args.digits.now c.pop_along.new.digits c.args.ranks.now c.pop_along.new.ranks c.self.invariant.sound (popped c))
 
 pub returns-clause-stays : goal.returns-clause-stays
 returns-clause-stays c =
     let f = c.self.inside in
-    subst (λ (v : BlockTree). IfNone c.pop_along.result (IsUnchanged (block_queues v) (queues_at f.arities.items (entries_of (with_items f.queues c.pop_along.new.queues).items) 0 1 0) c.args.digits.now c.pop_along.new.digits c.args.ranks.now c.pop_along.new.ranks)) c.self.view_is
-    (popped_stays f.arities.items (entries_of f.queues.items) (entries_of (with_items f.queues c.pop_along.new.queues).items) c.pop_along.result c.args.digits.now c.pop_along.new.digits c.args.ranks.now c.pop_along.new.ranks (popped c))
+    subst (λ (v : BlockTree). IfNone c.pop_along.result (IsUnchanged (block_queues v) (queues_at f.shape (entries_of (with_items f.queues c.pop_along.new.queues).items) 0 1 0) c.args.digits.now c.pop_along.new.digits c.args.ranks.now c.pop_along.new.ranks)) c.self.view_is
+    (popped_stays f.shape (entries_of f.queues.items) (entries_of (with_items f.queues c.pop_along.new.queues).items) c.pop_along.result c.args.digits.now c.pop_along.new.digits c.args.ranks.now c.pop_along.new.ranks (popped c))
 
 pub returns-clause-kept : goal.returns-clause-kept
 returns-clause-kept c =
     let f = c.self.inside in
-    let kept : ArrayKeepsRoom f.arities.items (spare_of f.queues.items) (spare_of c.pop_along.new.queues)
-    = subst (λ (z : List Block). ArrayKeepsRoom f.arities.items (spare_of z) (spare_of c.pop_along.new.queues)) c.deref_mut.ensures.value
-    (subst (λ (z : List ℕ). ArrayKeepsRoom z (spare_of c.deref_mut.result.now) (spare_of c.pop_along.new.queues)) c.deref.ensures.value c.pop_along.ensures.kept) in
-    subst (λ (v : BlockTree). HasNoLessRoom (block_room v) (room_at f.arities.items (spare_of (with_items f.queues c.pop_along.new.queues).items) 0 1 0)) c.self.view_is (rw (back c) kept)
+    let kept : ArrayKeepsRoom f.shape (spare_of f.queues.items) (spare_of c.pop_along.new.queues)
+    = subst (λ (z : List Block). ArrayKeepsRoom f.shape (spare_of z) (spare_of c.pop_along.new.queues)) c.deref_mut.ensures.value c.pop_along.ensures.kept in
+    subst (λ (v : BlockTree). HasNoLessRoom (block_room v) (room_at f.shape (spare_of (with_items f.queues c.pop_along.new.queues).items) 0 1 0)) c.self.view_is (rw (back c) kept)
