@@ -101,21 +101,18 @@ impl Pifo for HeapPifo {
 
     #[inline(always)]
     fn push(&mut self, rank: u64, value: u64) {
-        let in_order = is_behind(&self.run, self.last, rank);
-        match (u32::try_from(self.pushed), u32::try_from(value)) {
-            // Both parts have room for one more entry, so neither push can fail.
-            (Ok(arrival), Ok(value)) if in_order => {
-                let brief = Brief {
-                    rank,
-                    arrival,
-                    value,
-                };
-                self.run.push_back_reserved(brief);
-                self.last = rank;
-            }
-            _ => {
-                push_aside(&mut self.heap, rank, self.pushed, value);
-            }
+        let most = u64::from(u32::MAX);
+        // Both parts have room for one more entry, so neither push can fail.
+        if self.pushed <= most && value <= most && is_behind(&self.run, self.last, rank) {
+            let brief = Brief {
+                rank,
+                arrival: self.pushed as u32,
+                value: value as u32,
+            };
+            self.run.push_back_reserved(brief);
+            self.last = rank;
+        } else {
+            push_aside(&mut self.heap, rank, self.pushed, value);
         }
         self.pushed += 1;
         self.spare -= 1;

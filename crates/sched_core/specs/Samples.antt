@@ -11,7 +11,7 @@ use Rattle.tree_graph.specs.Preorder.{Numbered, numbered, rows, three_levels}
 use Rattle.policy_core.specs.declared.parts.PolicyNode.{PolicyNode}
 use Rattle.policy_core.specs.declared.parts.Class.{Class}
 use Rattle.policy_core.specs.Parts.{resolved}
-use Rattle.policy_core.specs.Samples.{plain, urgent, node_state, node}
+use Rattle.policy_core.specs.Samples.{plain, urgent, policy_node, node}
 
 abbrev pub two_programs : List Program
 two_programs = stfq ∷ strict ∷ []
@@ -19,8 +19,8 @@ two_programs = stfq ∷ strict ∷ []
 abbrev pub tree : Numbered
 tree = numbered (rows 0 [] three_levels) (topology_of three_levels)
 
-abbrev pub node_states : List PolicyNode
-node_states = node_state (codes "left") (codes "stfq") 0 urgent ∷ node_state (codes "right") (codes "strict") 1 plain ∷ node_state (codes "root") (codes "stfq") 0 plain ∷ node_state (codes "deep") (codes "stfq") 0 plain ∷ []
+abbrev pub policy_nodes : List PolicyNode
+policy_nodes = policy_node (codes "left") (codes "stfq") 0 urgent ∷ policy_node (codes "right") (codes "strict") 1 plain ∷ policy_node (codes "root") (codes "stfq") 0 plain ∷ policy_node (codes "deep") (codes "stfq") 0 plain ∷ []
 
 abbrev pub classes : List Class
 classes = record { marks = urgent; conditions = []; leaf = 3 } ∷ record { marks = plain; conditions = []; leaf = 2 } ∷ []
@@ -35,7 +35,7 @@ fair = record {
   conditions = [] ∷ [] ∷ [];
 }
 
-pub resolved-fair : resolved 1 tree node_states two_programs classes ≡ fair
+pub resolved-fair : resolved 1 tree policy_nodes two_programs classes ≡ fair
 resolved-fair = refl
 
 -- a packet of the second class

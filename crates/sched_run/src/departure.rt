@@ -1,5 +1,5 @@
 //! Departures that are recorded.
-ghost use Rattle.std.specs.Prelude.{[], ◌∷◌, OnOk, OnErr};
+ghost use Rattle.std.specs.Prelude.{◌≡◌, None, [], ◌∷◌, OnOk, OnErr};
 ghost use Rattle.sched_defs.specs.Events.{Depart, outcomes};
 ghost use Rattle.sched_core.specs.Standing.{ForEachState};
 ghost use Rattle.sched_run.specs.RecordingKinds.{recording_any};
@@ -20,6 +20,37 @@ use tree_core::Taken;
 pub struct Departure {
     pub event: u64,
     pub start: Option<u128>,
+}
+
+/// What names a departure to make: its event number, as in a script, or the whole `Departure`.
+pub trait IntoDeparture {
+    /// The departure that it names.
+    ghost departure: { Self → Departure };
+
+    /// Returns the departure that it names.
+    fn into_departure(self) -> Departure
+        ensures { result ≡ departure self };
+}
+
+impl IntoDeparture for u64 {
+    ghost departure = { λ event. record { event = event; start = None } };
+
+    #[inline(always)]
+    fn into_departure(self) -> Departure {
+        Departure {
+            event: self,
+            start: None,
+        }
+    }
+}
+
+impl IntoDeparture for Departure {
+    ghost departure = { λ departure. departure };
+
+    #[inline(always)]
+    fn into_departure(self) -> Departure {
+        self
+    }
 }
 
 /// Makes the departures of a run and records them. It is a trait of its own because its contract

@@ -17,7 +17,7 @@ mod steps;
 mod sum;
 mod tally;
 
-pub use departure::{Departure, DepartureRecorder};
+pub use departure::{Departure, DepartureRecorder, IntoDeparture};
 pub use drawing::Drawing;
 pub use laws::{loads_leave_nothing, runs_begin_at_the_start};
 pub use load::MOST_LOAD;

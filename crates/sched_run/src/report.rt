@@ -9,7 +9,7 @@ ghost use Rattle.sched_run.specs.Frames.{CanDepart};
 ghost use Rattle.sched_run.specs.Lines.{adds_lines, cuts_lines, lines_are_joined};
 ghost use Rattle.sched_run.specs.Played.{Departs, line_of};
 
-use crate::departure::{Departure, DepartureRecorder};
+use crate::departure::{Departure, DepartureRecorder, IntoDeparture};
 use crate::recorder::Recorder;
 use outside_core::{Sink, Stop};
 use packet_defs::{Departed, Packet};
@@ -88,20 +88,21 @@ impl DepartureRecorder for Report {
         sink: &mut K,
         departure: Departure,
     ) -> Result<Option<Departed>, WriteFault> {
-        write_departure(names, scheduler, under, trace, self, sink, departure)
+        depart_line(names, scheduler, under, trace, self, sink, departure)
     }
 }
 
-/// Makes a departure and writes its line. Allocates no memory.
+/// Makes a departure and writes its line. Allocates no memory. It is part of its callers, so that the
+/// packet that departed isn't copied out of its result.
 #[inline(always)]
-fn write_departure<C: Scheduler, N: NodeNames, K: Sink>(
+pub fn depart_line<C: Scheduler, N: NodeNames, K: Sink, D: IntoDeparture>(
     names: &N,
     scheduler: &mut C,
     under: &mut C::Under,
     trace: &mut Taken,
     report: &mut Report,
     sink: &mut K,
-    departure: Departure,
+    departure: D,
 ) -> Result<Option<Departed>, WriteFault>
     requires can { CanDepart C.Scheduler ⟦<Report as Recorder>⟧.live (N.policy names.now)
         scheduler.old under.old trace.old report.old }
@@ -111,16 +112,18 @@ fn write_departure<C: Scheduler, N: NodeNames, K: Sink>(
     ensures text { OnOk result (ForEachState C.stands (C.policy scheduler.old) scheduler.old
         under.old (λ s.
         Tells K.written sink.old report.old sink.new report.new
-        (line_of (C.policy scheduler.old) departure.event (Depart departure.start) s))) }
+        (line_of (C.policy scheduler.old) (D.departure departure).event
+        (Depart (D.departure departure).start) s))) }
     ensures cut { OnErr result (ForEachState C.stands (C.policy scheduler.old) scheduler.old
         under.old (λ s.
         CutsOff K.written sink.old report.old sink.new
-        (line_of (C.policy scheduler.old) departure.event (Depart departure.start) s))) }
+        (line_of (C.policy scheduler.old) (D.departure departure).event
+        (Depart (D.departure departure).start) s))) }
     ensures kept { KeepsSink K.written K.faults sink.old sink.new }
     ensures cause { OnErr result (Rose (K.faults sink.old) (K.faults sink.new)) }
     ensures live { report.new.live ≡ is_ok result }
 {
-    let Departure { event, start } = departure;
+    let Departure { event, start } = departure.into_departure();
     match scheduler.depart(under, trace) {
         Some(departed) => {
             let leaf = names.name(departed.leaf);
@@ -132,35 +135,4 @@ fn write_departure<C: Scheduler, N: NodeNames, K: Sink>(
             Ok(None)
         }
     }
-}
-
-/// Makes a departure of a script and writes its line. Allocates no memory. It is part of its callers,
-/// so that the packet that departed isn't copied out of its result.
-#[inline(always)]
-pub fn depart_line<C: Scheduler, N: NodeNames, K: Sink>(
-    names: &N,
-    scheduler: &mut C,
-    under: &mut C::Under,
-    trace: &mut Taken,
-    report: &mut Report,
-    sink: &mut K,
-    event: u64,
-) -> Result<Option<Departed>, WriteFault>
-    requires can { CanDepart C.Scheduler ⟦<Report as Recorder>⟧.live (N.policy names.now)
-        scheduler.old under.old trace.old report.old }
-
-    ensures departs { Departs C.Scheduler result scheduler.old under.old trace.old scheduler.new
-        under.new trace.new }
-    ensures text { OnOk result (ForEachState C.stands (C.policy scheduler.old) scheduler.old
-        under.old (λ s.
-        Tells K.written sink.old report.old sink.new report.new (line_of (C.policy scheduler.old) event (Depart None) s))) }
-    ensures cut { OnErr result (ForEachState C.stands (C.policy scheduler.old) scheduler.old
-        under.old (λ s.
-        CutsOff K.written sink.old report.old sink.new (line_of (C.policy scheduler.old) event (Depart None) s))) }
-    ensures kept { KeepsSink K.written K.faults sink.old sink.new }
-    ensures cause { OnErr result (Rose (K.faults sink.old) (K.faults sink.new)) }
-    ensures live { report.new.live ≡ is_ok result }
-{
-    let departure = Departure { event, start: None };
-    write_departure(names, scheduler, under, trace, report, sink, departure)
 }

@@ -1,42 +1,41 @@
-use Rattle.pifo_core.proofs.Prelude.{arith, ◌≡◌, ap, ◌∙◌, ◌≤◌, refl, ◌+◌, deque_len, heap_items, heap_len, Reverse, put, held_of_both, wide, IsHeaped, IsUpTo, queue_of, Held}
+use Rattle.pifo_core.proofs.Prelude.{arith, ◌≡◌, ap, ◌∙◌, ◌≤◌, refl, ◌+◌, deque_len, heap_items, heap_len, Reverse, put, held_of_both, IsHeaped, IsUpTo, queue_of, Held}
 use Rattle.std.specs.BinaryHeap.{heap_capacity}
 use Rattle.std.specs.VecDeque.{deque_capacity}
 use Rattle.pifo_core.specs.declared.held.Brief.{Brief}
 use Rattle.pifo_core.proofs.HeapLaws.{queue_of-followed, IsHeaped-followed, queue_of-pushed, IsHeaped-pushed, IsUpTo-followed}
 use Rattle.pifo_core.proofs.heap.HeapPifoPifo.push.Goals as goal
-use Rattle.pifo_core.proofs.heap.HeapPifoPifo.push.Goals.{in-Ok-Ok, in_default}
+use Rattle.pifo_core.proofs.heap.HeapPifoPifo.push.Goals.{then-self-most+then-value-most+then-is_behind, else-self-most}
 
 entry : goal.After-self-3-1 → Held
 entry c = record { rank = c.args.rank; arrival = c.self.inside.pushed; value = c.args.value }
 
 record Pushed (c : goal.After-self-3-1) : Type 0 where
-  kept : IsHeaped c.match-try_from.self-inside.run.items (heap_items c.match-try_from.self-inside.heap) (c.match-try_from.self-inside.pushed + 1)
-  put_last : queue_of (held_of_both c.match-try_from.self-inside.run.items (heap_items c.match-try_from.self-inside.heap)) ≡ put (queue_of (held_of_both c.self.inside.run.items (heap_items c.self.inside.heap))) c.args.rank c.args.value
-  in_run : deque_len c.match-try_from.self-inside.run + c.self.inside.spare ≤ deque_capacity c.match-try_from.self-inside.run + 1
-  in_heap : heap_len c.match-try_from.self-inside.heap + c.self.inside.spare ≤ heap_capacity c.match-try_from.self-inside.heap + 1
-  spare : c.match-try_from.self-inside.spare ≡ c.self.inside.spare
-  last : IsUpTo c.match-try_from.self-inside.last c.match-try_from.self-inside.run.items
+  kept : IsHeaped c.if-self-most.self-inside.run.items (heap_items c.if-self-most.self-inside.heap) (c.if-self-most.self-inside.pushed + 1)
+  put_last : queue_of (held_of_both c.if-self-most.self-inside.run.items (heap_items c.if-self-most.self-inside.heap)) ≡ put (queue_of (held_of_both c.self.inside.run.items (heap_items c.self.inside.heap))) c.args.rank c.args.value
+  in_run : deque_len c.if-self-most.self-inside.run + c.self.inside.spare ≤ deque_capacity c.if-self-most.self-inside.run + 1
+  in_heap : heap_len c.if-self-most.self-inside.heap + c.self.inside.spare ≤ heap_capacity c.if-self-most.self-inside.heap + 1
+  spare : c.if-self-most.self-inside.spare ≡ c.self.inside.spare
+  last : IsUpTo c.if-self-most.self-inside.last c.if-self-most.self-inside.run.items
 
 pushed : (c : goal.After-self-3-1) → Pushed c
 unfolding entry
 pushed c =
     let i = c.self.inside in
     let kept : IsHeaped i.run.items (heap_items i.heap) i.pushed = c.self.invariant.0 in
-    elim c.match-try_from.branch [
-      | in-Ok-Ok w ↦
+    elim c.if-self-most.branch [
+      | then-self-most+then-value-most+then-is_behind w ↦
           let items = w.push_back_reserved.ensures.items in
-          let b : Brief = record { rank = c.args.rank; arrival = w.in-Ok-Ok.arrival; value = w.in-Ok-Ok.value } in
-          let wide_is : wide b ≡ entry c = rw (w.in-Ok-Ok.ensures.1, w.in-Ok-Ok.ensures'.1) refl in
-          let before : IsUpTo c.args.rank i.run.items = c.is_behind-in_order.ensures.behind w.if-in_order.true in
+          let b : Brief = record { rank = c.args.rank; arrival = i.pushed; value = c.args.value } in
+          let before : IsUpTo c.args.rank i.run.items = w.is_behind.ensures.behind w.if-is_behind.true in
           record {
-            kept = rw (w.self-inside-is, items) (IsHeaped-followed (entry c) b wide_is i.run.items (heap_items i.heap) kept before);
-            put_last = rw (w.self-inside-is, items) (queue_of-followed (entry c) b wide_is i.run.items (heap_items i.heap) kept before);
+            kept = rw (w.self-inside-is, items) (IsHeaped-followed (entry c) b refl i.run.items (heap_items i.heap) kept before);
+            put_last = rw (w.self-inside-is, items) (queue_of-followed (entry c) b refl i.run.items (heap_items i.heap) kept before);
             in_run = rw w.self-inside-is (omega (arith, w.push_back_reserved.ensures.len, c.self.invariant.1, w.push_back_reserved.ensures.capacity));
             in_heap = rw w.self-inside-is (omega (arith, c.self.invariant.2));
             spare = rw w.self-inside-is;
             last = rw (w.self-inside-is, items) (IsUpTo-followed b i.run.items before);
           }
-      | in_default w ↦
+      | else-self-most w ↦
           let top : Reverse Held = record { 0 = entry c } in
           let p = w.push_aside.ensures in
           record {
