@@ -10,7 +10,7 @@ ghost use Rattle.report_core.specs.Gathered.{limit, text_of, Tells, CutsOff, Fai
 use crate::buffer::Buffer;
 use crate::fault::{FaultKind, WriteFault};
 use crate::last::{put_end, put_fault};
-use crate::line::{Hundreds, put_array, put_name, put_ranks, put_start};
+use crate::line::{Leading, STARTS, put_array, put_name, put_next, put_ranks, put_start};
 use outside_core::Sink;
 use std::alloc::{AllocError, Global};
 use std::marker::Model;
@@ -20,9 +20,10 @@ use std::marker::Model;
 #[derive(Drop)]
 pub struct Report {
     buffer: Buffer,
-    events: Hundreds,
-    arrivals: Hundreds,
-    departures: Hundreds,
+    events: Leading<100>,
+    arrivals: Leading<100>,
+    departures: Leading<100>,
+    starts: Leading<STARTS>,
 }
 
 impl Model for Report {
@@ -43,9 +44,10 @@ impl Report {
     {
         Ok(Report {
             buffer: Buffer::new(alloc)?,
-            events: Hundreds::new(),
-            arrivals: Hundreds::new(),
-            departures: Hundreds::new(),
+            events: Leading::new(),
+            arrivals: Leading::new(),
+            departures: Leading::new(),
+            starts: Leading::new(),
         })
     }
 
@@ -79,8 +81,8 @@ impl Report {
     {
         let line = self.buffer.bytes.as_mut_slice();
         let event_at = put_array(line, self.buffer.held, *b"a ");
-        let packet_at = self.events.put(line, event_at, event, b' ');
-        let leaf_at = self.arrivals.put(line, packet_at, packet, b' ');
+        let packet_at = put_next(&mut self.events, line, event_at, event, b' ');
+        let leaf_at = put_next(&mut self.arrivals, line, packet_at, packet, b' ');
         let ranks_at = put_name(line, leaf_at, leaf);
         let ranks_end = put_ranks(line, ranks_at, ranks);
         let end = put_array(line, ranks_end, *b"\n");
@@ -113,12 +115,12 @@ impl Report {
     {
         let line = self.buffer.bytes.as_mut_slice();
         let event_at = put_array(line, self.buffer.held, *b"d ");
-        let packet_at = self.events.put(line, event_at, event, b' ');
-        let leaf_at = self.departures.put(line, packet_at, packet, b' ');
+        let packet_at = put_next(&mut self.events, line, event_at, event, b' ');
+        let leaf_at = put_next(&mut self.departures, line, packet_at, packet, b' ');
         let ranks_at = put_name(line, leaf_at, leaf);
         let mut end = put_ranks(line, ranks_at, ranks);
         if let Some(start) = start {
-            end = put_start(line, end, start);
+            end = put_start(&mut self.starts, line, end, start);
         }
         let end = put_array(line, end, *b"\n");
         self.buffer.close(sink, end)
@@ -138,7 +140,7 @@ impl Report {
     {
         let line = self.buffer.bytes.as_mut_slice();
         let event_at = put_array(line, self.buffer.held, *b"e ");
-        let end = self.events.put(line, event_at, event, b'\n');
+        let end = put_next(&mut self.events, line, event_at, event, b'\n');
         self.buffer.close(sink, end)
     }
 
@@ -163,8 +165,8 @@ impl Report {
     {
         let line = self.buffer.bytes.as_mut_slice();
         let event_at = put_array(line, self.buffer.held, *b"x ");
-        let packet_at = self.events.put(line, event_at, event, b' ');
-        let leaf_at = self.arrivals.put(line, packet_at, packet, b' ');
+        let packet_at = put_next(&mut self.events, line, event_at, event, b' ');
+        let leaf_at = put_next(&mut self.arrivals, line, packet_at, packet, b' ');
         let leaf_end = put_name(line, leaf_at, leaf);
         let end = put_array(line, leaf_end, *b"\n");
         self.buffer.close(sink, end)

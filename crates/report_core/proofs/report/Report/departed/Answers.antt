@@ -17,8 +17,8 @@ text g c =
     ≡ before ++ 100 ∷ 32 ∷ [] ++ decimal c.args.event ++ 32 ∷ [] ++ decimal c.args.packet ++ 32 ∷ [] ++ leaf ++ 32 ∷ [] ++ ranks =
     c.put_ranks-end.ensures.text
     ∙ ap (λ s. s ++ 32 ∷ [] ++ ranks) (c.put_name-ranks_at.ensures.text
-    ∙ ap (λ s. s ++ c.args.leaf.now) (c.put-leaf_at.ensures.text
-    ∙ ap (λ s. s ++ decimal c.args.packet ++ 32 ∷ []) (c.put-packet_at.ensures.text
+    ∙ ap (λ s. s ++ c.args.leaf.now) (c.put_next-leaf_at.ensures.text
+    ∙ ap (λ s. s ++ decimal c.args.packet ++ 32 ∷ []) (c.put_next-packet_at.ensures.text
     ∙ ap (λ s. s ++ decimal c.args.event ++ 32 ∷ []) (c.put_array-event_at.ensures.text
     ∙ ap (λ l. take c.self.inside.buffer.held l ++ 100 ∷ 32 ∷ []) c.as_mut_slice-line.ensures.value)))) in
     let line : take c.match-start.end c.match-start.line ++ 10 ∷ [] ≡ before ++ departure_line c.args.event c.args.packet c.args.leaf.now c.args.ranks.now c.args.start =

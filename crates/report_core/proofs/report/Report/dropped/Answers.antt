@@ -11,8 +11,8 @@ text : (g : Over) (c : goal.After-close g) → take c.put_array-end.result c.put
 text g c =
     c.put_array-end.ensures.text
     ∙ ap (λ s. s ++ 10 ∷ []) (c.put_name-leaf_end.ensures.text
-    ∙ ap (λ s. s ++ c.args.leaf.now) (c.put-leaf_at.ensures.text
-    ∙ ap (λ s. s ++ decimal c.args.packet ++ 32 ∷ []) (c.put-packet_at.ensures.text
+    ∙ ap (λ s. s ++ c.args.leaf.now) (c.put_next-leaf_at.ensures.text
+    ∙ ap (λ s. s ++ decimal c.args.packet ++ 32 ∷ []) (c.put_next-packet_at.ensures.text
     ∙ ap (λ s. s ++ decimal c.args.event ++ 32 ∷ []) (c.put_array-event_at.ensures.text
     ∙ ap (λ l. take c.self.inside.buffer.held l ++ 120 ∷ 32 ∷ []) c.as_mut_slice-line.ensures.value))))
     ∙ four_words (take c.self.inside.buffer.held c.self.inside.buffer.bytes.items) (decimal c.args.event) (decimal c.args.packet) c.args.leaf.now 120
