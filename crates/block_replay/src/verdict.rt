@@ -13,9 +13,8 @@ use crate::calmness::calm;
 use crate::words::CalmFiles;
 use outside_core::{Shelf, Sink, Stop};
 use replay_app::{
-    NotRun, Status, accepted, lay, read_policy, read_target_file, write, write_rejection,
+    NotRun, PolicyFormat, Status, TargetFormat, lay, read_input, write, write_rejection,
 };
-use report_core::FaultKind;
 use std::alloc::Global;
 
 /// Writes the line `calm yes` or `calm no`.
@@ -51,14 +50,8 @@ fn prepare_calm<S: Shelf>(
     ensures rejects { RejectsWith (3 ∷ 4 ∷ 5 ∷ []) result }
     ensures cause { StopsReading result (S.faults shelf.old) (S.faults shelf.new) }
 {
-    let policy_file = accepted(
-        FaultKind::Policy,
-        read_policy(alloc, files.latest, shelf, files.policy),
-    )?;
-    let target = accepted(
-        FaultKind::Target,
-        read_target_file(alloc, shelf, files.target),
-    )?;
+    let policy_file = read_input(alloc, &PolicyFormat(files.latest), shelf, files.policy)?;
+    let target = read_input(alloc, &TargetFormat, shelf, files.target)?;
     let laid = lay(alloc, policy_file.policy, target)?;
     Ok(calm(laid.policy(), laid.map()))
 }

@@ -1,46 +1,25 @@
 //! Reads a policy and writes it as a text of version 3.
-ghost use Rattle.std.specs.Prelude.{◌≡◌, ◌≤◌, [], ◌∷◌, IfOk, IfSome, IsTrue, IsErrOf, codes};
+ghost use Rattle.std.specs.Prelude.{◌≡◌, ◌≤◌, [], ◌∷◌, IfOk, IfSome, IsTrue, IsErrOf};
 ghost use Rattle.outside_core.specs.Faults.{Rose};
-ghost use Rattle.outside_core.specs.Plain.{held_files};
-ghost use Rattle.outside_core.specs.Stored.{content_or_empty};
 ghost use Rattle.replay_app.specs.Answer.{IsTold, IsGiven, text_alone};
 ghost use Rattle.replay_app.specs.Causes.{HasCauses};
-ghost use Rattle.replay_app.specs.Policies.{IsPolicyRead, entries_in};
+ghost use Rattle.replay_app.specs.Policies.{entries_in};
 ghost use Rattle.replay_app.specs.Statuses.{CanEnd, IsOneOf, status_code};
 ghost use Rattle.replay_app.specs.Words.{check};
 ghost use Rattle.front_upgrade.specs.Upgraded.{latest, AreSound, upgraded_text, IsUpgraded, IsUpgradeOf};
 
 use crate::text::{line_at, upgraded_text};
-use outside_core::{PlainShelf, Shelf, Sink, Stop};
+use outside_core::{Shelf, Sink, Stop};
 use policy_text::{Edition, Lines};
-use replay_app::{PolicyFile, Read, Refusal, Status, read_policy, refuse, stop_status, write};
+use replay_app::{
+    Format, NotRun, PolicyFormat, Refusal, Status, read_input, refuse, stop_status, write,
+    write_rejection,
+};
 use report_core::FaultKind;
-use std::alloc::{AllocError, Global};
+use std::alloc::Global;
 
-/// The latest edition of the language.
-const LATEST: Edition = Edition::Third;
-
-/// The name of the text of version 3 in memory.
-const NAME: &str = "policy";
-
-/// Returns a shelf in memory with this text. Fails if out of memory.
-fn shelf_of(alloc: Global, text: Vec<u8>) -> Result<PlainShelf, AllocError>
-    ensures { IfOk result (λ s. content_or_empty (held_files s) (codes "policy") ≡ text.items) }
-{
-    let mut files = Vec::new(alloc);
-    files.push((String::from_str(alloc, NAME)?, text))?;
-    Ok(PlainShelf::new(files))
-}
-
-/// Reads a text of version 3, and decides whether its policy is accepted.
-fn read_again(alloc: Global, text: Vec<u8>) -> Result<Read<PolicyFile>, Stop>
-    ensures read { IfOk result (IsPolicyRead latest text.items) }
-    ensures reads_nothing { IsErrOf result Stop.Source → ⊥ }
-    ensures writes_nothing { IsErrOf result Stop.Sink → ⊥ }
-{
-    let mut shelf = shelf_of(alloc, text)?;
-    read_policy(alloc, LATEST, &mut shelf, NAME)
-}
+/// The format of policies in all editions of the language.
+const POLICIES: PolicyFormat = PolicyFormat(Edition::Third);
 
 /// Writes accepted statements as a text of version 3.
 fn write_upgraded<K: Sink>(alloc: Global, lines: &Lines, sink: &mut K) -> Result<Status, Stop>
@@ -68,9 +47,9 @@ fn upgrade_lines<K: Sink>(alloc: Global, lines: &Lines, sink: &mut K) -> Result<
     ensures reads_nothing { IsErrOf result Stop.Source → ⊥ }
 {
     let text = upgraded_text(alloc, lines)?;
-    match read_again(alloc, text)? {
-        Read::Accepted(again) => write_upgraded(alloc, lines, sink),
-        Read::Refused(refusal) => {
+    match POLICIES.parse(alloc, &text)? {
+        Ok(again) => write_upgraded(alloc, lines, sink),
+        Err(refusal) => {
             let place = line_at(lines, refusal.place);
             refuse(
                 alloc,
@@ -100,9 +79,10 @@ fn upgrade_file<S: Shelf, K: Sink>(
     ensures causes { HasCauses result (S.faults shelf.old) (S.faults shelf.new) (K.faults sink.old)
         (K.faults sink.new) }
 {
-    match read_policy(alloc, LATEST, shelf, name)? {
-        Read::Accepted(policy_file) => upgrade_lines(alloc, &policy_file.lines, sink),
-        Read::Refused(refusal) => refuse(alloc, sink, FaultKind::Policy, refusal),
+    match read_input(alloc, &POLICIES, shelf, name) {
+        Ok(policy_file) => upgrade_lines(alloc, &policy_file.lines, sink),
+        Err(NotRun::Rejected(rejection)) => write_rejection(alloc, &rejection, sink),
+        Err(NotRun::Stopped(stop)) => Err(stop),
     }
 }
 

@@ -1,5 +1,4 @@
 pub mod Prelude
-pub mod LoadLaws
 pub mod ScriptFaults
 pub mod FollowLaws
 pub mod DecidedLaws

@@ -17,8 +17,8 @@ pub use Rattle.events_core.specs.Script.{IsScript}
 pub use Rattle.events_core.specs.declared.step.Step.{Step}
 pub use Rattle.fabric_core.specs.declared.fabric.Fabric.{Ghosts}
 pub use Rattle.mapcheck_core.specs.GivenMaps.{IsGivenFor, IsVerdict, IsWithinLimits, image_of, Breaks, outside, prefix, root}
-pub use Rattle.mapcheck_core.specs.MapTexts.{Fits, IsMapAnswer, most_map_bytes}
-pub use Rattle.mapcheck_core.specs.TreeTexts.{IsTreeText, IsTreeFault, most_tree_bytes}
+pub use Rattle.mapcheck_core.specs.MapTexts.{Fits, IsMapAnswer}
+pub use Rattle.mapcheck_core.specs.TreeTexts.{IsTreeText, IsTreeFault}
 pub use Rattle.mapcheck_core.specs.declared.fault.MapFault.{MapFault}
 pub use Rattle.mapcheck_core.specs.declared.given.Given.{Given}
 pub use Rattle.outside_core.proofs.WrittenLaws.{appended_nothing, prefix_of_nothing, appended_in_turn, prefix_in_turn, prefix_of_longer}
@@ -59,18 +59,16 @@ pub use Rattle.tree_defs.specs.Topology.{topology_of, Topology, complete}
 pub use Rattle.tree_defs.specs.Tree.{Tree, Address, SameShape, nodes, inner, more, most_nodes, none}
 pub use Rattle.replay_app.specs.Answer.{Answer, IsTold, IsLeft, IsDone, refusal, HoldsRun, Each, LeavesBoth}
 pub use Rattle.replay_app.specs.Behind.{IsLeftOf, tap_list, UsesNoFabric}
-pub use Rattle.replay_app.specs.Follows.{IsRead, Follows, goes_on, stops}
+pub use Rattle.replay_app.specs.Follows.{Follows, goes_on, stops}
 pub use Rattle.replay_app.specs.Named.{pacing_form, command_form}
 pub use Rattle.replay_app.specs.Output.{laid_run, IsOutput, forward_run, IsPaced, direct_run, watchers}
-pub use Rattle.replay_app.specs.Policies.{policy_file_of, IsPolicyRefused, IsPolicy, IsTextRefused, PolicyFile, statements_refused, text_refused, entries_in, IsTextRead, checked, senses_of}
+pub use Rattle.replay_app.specs.Policies.{policy_file_of, IsPolicyRefused, IsPolicy, IsTextRefused, PolicyFile, statements_refused, text_refused, entries_in, checked, senses_of}
 pub use Rattle.replay_app.specs.Scripts.{IsScriptRefused, OfLines, ending_status, lines_behind, script_pace, AlongScript}
 pub use Rattle.replay_app.specs.Soak.{soak_line, soak_target, IsSoaked, counted, soak_answer}
 pub use Rattle.replay_app.specs.Stages.{watching_in, BehindPolicy, BehindRoom, BehindTarget, BehindTargetText, BehindWords}
 pub use Rattle.replay_app.specs.Statuses.{status_code, IsOneOf, IsStop, forward_status, run_status, IsRefusal, forward_statuses, kind_status, pace_statuses, paced_statuses, run_statuses}
 pub use Rattle.replay_app.specs.Targets.{IsPlacement, HasNoRoom, IsTargetOf, IsTargetRefused, IsPlanned, planned, plan_answer}
-pub use Rattle.replay_app.specs.Via.{names_of, policy_edition, IsMapRefused, IsTreeRefused, unread, IsMapFile, pair_text, HasVerdict, IsCarried, NamesNodes, Unbroken, map_refusal, pair_line}
+pub use Rattle.replay_app.specs.Via.{names_of, policy_edition, IsMapRefused, IsTreeRefused, unread, IsMapFile, pair_text, IsCarried, NamesNodes, Unbroken, map_refusal, pair_line}
 pub use Rattle.replay_app.specs.Words.{Pacing, forward, link, replay, script, via, check, direct, no_form, plan, soak, pacing_words, AreTold, Form, named_in, texts}
-pub use Rattle.replay_app.specs.declared.refusal.Read.TheVariants.{Refused}
-pub use Rattle.replay_app.specs.declared.refusal.Refusal.{Refusal}
 pub use Rattle.replay_app.specs.declared.status.Status.{Status}
 pub use Rattle.replay_app.specs.declared.status.Status.TheVariants.{Done, BadMap, BadPolicy, BadScript, BadTarget, BadTree, LateStart, NoForm, NoRoom, OtherLink, OverLimit}

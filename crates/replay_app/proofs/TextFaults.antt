@@ -5,11 +5,20 @@ use Rattle.mapcheck_core.specs.declared.tree_fault.TreeFault.{TreeFault}
 use Rattle.mapcheck_core.specs.declared.tree_fault.TreeFault.TheVariants as tree
 use Rattle.mapcheck_core.specs.MapFaults.{code_of, place_of}
 use Rattle.mapcheck_core.specs.TreeTexts.{code_of as tree_code, place_of as tree_place}
-use Rattle.replay_app.specs.Via.{at_fault}
+use Rattle.policy_text.proofs.TextSteps.{cause_told}
+use Rattle.policy_text.specs.Codes.{code_of as text_code, line_of as text_line}
+use Rattle.policy_text.specs.Parsing.{HasCause}
+use Rattle.policy_text.specs.declared.fault.TextFault.{TextFault}
+use Rattle.policy_text.specs.declared.fault.TextFault.TheVariants as fault
+use Rattle.replay_app.specs.Policies.{IsPolicyRefused, text_refused, at_fault}
+use Rattle.replay_app.specs.Via as via
+
+pub policy_refused : (latest : Edition) (text : List ℕ) (f : TextFault) → f ≢ fault.NoMemory → HasCause latest text f → IsPolicyRefused latest text (text_code f) (text_line f)
+policy_refused latest text f some is = text_refused (text_code f) (text_line f) (at_fault f (cause_told latest text f some is))
 
 pub tree_refused : (text : List ℕ) (f : TreeFault) → f ≢ tree.NoMemory → (f ≡ tree.NoMemory) ⊎ IsTreeFault text f → IsTreeRefused text (tree_code f) (tree_place f)
 tree_refused text f some (inl none) = absurd (some none)
-tree_refused text f some (inr is) = at_fault f is
+tree_refused text f some (inr is) = via.at_fault f is
 
 -- a map that was read in the policy's edition, with the policy's names
 module _ (policy : Policy) (text : List ℕ) (edition : Edition) (written : edition ≡ policy_edition policy) (names : List (List ℕ)) (same : names ≡ names_of policy) where

@@ -12,8 +12,6 @@ use Rattle.replay_app.specs.Statuses.{status_code, kind_status, IsOneOf}
 use Rattle.replay_app.specs.declared.not_run.NotRun.{NotRun}
 use Rattle.replay_app.specs.declared.not_run.NotRun.TheVariants.{Rejected, Stopped}
 use Rattle.replay_app.specs.declared.not_run.Rejection.{Rejection}
-use Rattle.replay_app.specs.declared.refusal.Read.{Read}
-use Rattle.replay_app.specs.declared.refusal.Read.TheVariants.{Accepted, Refused}
 
 -- what is written before the line of an error
 abbrev pub text_before : Option (Vec ℕ Global) → List ℕ
@@ -25,12 +23,6 @@ abbrev pub rejected : Rejection → Answer
 rejected r = text_alone (status_code (kind_status r.kind)) (text_before r.before ++ fault_line (word_of r.kind) r.cause.code r.cause.place)
 
 -- ---- one input
--- an accepted input of this kind, or why nothing runs
-abbrev pub accepted_in : {T : Type 0} → FaultKind → Result (Read T) Stop → Result T NotRun
-accepted_in kind (Ok (Accepted t)) = Ok t
-accepted_in kind (Ok (Refused r)) = Err (Rejected (record { kind = kind; cause = r; before = None }))
-accepted_in kind (Err stop) = Err (Stopped stop)
-
 -- the input is accepted, or rejected with a code and position that `refused` allows, and nothing is
 -- written before its line
 abbrev pub IsInput : {T : Type 0} → (ℕ → ℕ → Type 0) → (T → Type 0) → Result T NotRun → Type 0

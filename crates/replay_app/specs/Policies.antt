@@ -1,5 +1,5 @@
 -- Reading the text of a policy.
-use Rattle.std.specs.Prelude.{◌≢◌, ℕ, List, map}
+use Rattle.std.specs.Prelude.{◌≢◌, ℕ, List, map, Result}
 use Rattle.report_core.specs.declared.fault.FaultKind.TheVariants.{Policy}
 use Rattle.policy_text_defs.specs.Canonical.{canonical_text}
 use Rattle.policy_text_defs.specs.Sense.{Sense, Entry}
@@ -17,7 +17,7 @@ use Rattle.policy_rules.specs.declared.fault.PolicyFault.{PolicyFault}
 use Rattle.policy_rules.specs.declared.fault.PolicyFault.TheVariants.{NoMemory}
 use Rattle.replay_app.specs.Answer.{Answer, text_alone}
 use Rattle.replay_app.specs.Follows.{Follows, IsRead}
-use Rattle.replay_app.specs.declared.refusal.Read.{Read}
+use Rattle.replay_app.specs.declared.refusal.Refusal.{Refusal}
 use Rattle.replay_app.specs.declared.policies.PolicyFile as code
 
 -- the statements, without their line numbers
@@ -62,9 +62,6 @@ UnderPolicy latest text after = Follows Policy (IsPolicyRefused latest text) (Is
 abbrev pub checked : PolicyFile → Answer
 checked j = text_alone 0 (canonical_text (senses_of j.entries))
 
--- ---- results of reading
-abbrev pub IsTextRead : Edition → List ℕ → Read Lines → Type 0
-IsTextRead latest text read = IsRead (IsTextRefused latest text) (λ lines. HasEntries latest text (entries_in lines)) read
-
-abbrev pub IsPolicyRead : Edition → List ℕ → Read code.PolicyFile → Type 0
+-- what a reader of the editions up to `latest` reads of a text
+abbrev pub IsPolicyRead : Edition → List ℕ → Result code.PolicyFile Refusal → Type 0
 IsPolicyRead latest text read = IsRead (IsPolicyRefused latest text) (λ j. IsPolicy latest text (policy_file_of j)) read

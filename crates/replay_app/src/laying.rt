@@ -8,7 +8,7 @@ ghost use Rattle.replay_app.specs.Placing.{unplaced, IsLaidAs, IsLaidAlong};
 ghost use Rattle.replay_app.specs.Targets.{HasNoRoom};
 ghost use Rattle.replay_app.specs.Via.{IsRoute};
 
-use crate::not_run::{NotRun, Rejection};
+use crate::not_run::NotRun;
 use crate::targets::NO_ROOM;
 use embed_core::{EmbedFault, Map, Target, embed};
 use mapcheck_core::{Given, compose};
@@ -24,11 +24,7 @@ fn unplaced(fault: EmbedFault) -> NotRun
     ensures { result ≡ unplaced fault }
 {
     match fault {
-        EmbedFault::NoEmbedding => NotRun::Rejected(Rejection {
-            kind: FaultKind::Size,
-            cause: NO_ROOM,
-            before: None,
-        }),
+        EmbedFault::NoEmbedding => NotRun::rejected(FaultKind::Size, NO_ROOM),
         EmbedFault::NoMemory => NotRun::Stopped(Stop::Memory),
     }
 }

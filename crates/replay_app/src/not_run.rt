@@ -2,9 +2,8 @@
 ghost use Rattle.std.specs.Prelude.{◌≡◌};
 ghost use Rattle.outside_core.specs.declared.stop.Stop.TheVariants.{Memory};
 ghost use Rattle.replay_app.specs.declared.not_run.NotRun.TheVariants.{Stopped};
-ghost use Rattle.replay_app.specs.Decided.{accepted_in};
 
-use crate::refusal::{Read, Refusal};
+use crate::refusal::Refusal;
 use outside_core::Stop;
 use report_core::FaultKind;
 use std::alloc::AllocError;
@@ -27,6 +26,22 @@ pub enum NotRun {
     Stopped(Stop),
 }
 
+impl NotRun {
+    ghost use Rattle.std.specs.Prelude.{None};
+    ghost use Rattle.replay_app.specs.declared.not_run.NotRun.TheVariants.{Rejected};
+
+    /// Returns that an input is rejected. Nothing is written before the line of the error.
+    pub fn rejected(kind: FaultKind, cause: Refusal) -> NotRun
+        ensures { result ≡ Rejected (record { kind = kind; cause = cause; before = None }) }
+    {
+        NotRun::Rejected(Rejection {
+            kind,
+            cause,
+            before: None,
+        })
+    }
+}
+
 impl From<Stop> for NotRun {
     ghost from_gives = { λ stop not_run. not_run ≡ Stopped stop };
 
@@ -40,20 +55,5 @@ impl From<AllocError> for NotRun {
 
     fn from(_error: AllocError) -> NotRun {
         NotRun::Stopped(Stop::Memory)
-    }
-}
-
-/// Returns an accepted input of this kind, or why nothing runs.
-pub fn accepted<T: Drop>(kind: FaultKind, read: Result<Read<T>, Stop>) -> Result<T, NotRun>
-    ensures { result ≡ accepted_in kind read }
-{
-    match read {
-        Ok(Read::Accepted(input)) => Ok(input),
-        Ok(Read::Refused(cause)) => Err(NotRun::Rejected(Rejection {
-            kind,
-            cause,
-            before: None,
-        })),
-        Err(stop) => Err(NotRun::Stopped(stop)),
     }
 }

@@ -9,14 +9,15 @@ ghost use Rattle.replay_app.specs.Named.{command_form, direct_form, plan_form, r
 ghost use Rattle.replay_app.specs.Output.{IsOutput};
 ghost use Rattle.replay_app.specs.Words.{AreLent, WhereTold, check, file_words};
 
+use crate::format::read_input;
 use crate::job::{Drive, Job};
 use crate::laying::{lay, lay_along};
-use crate::not_run::{NotRun, Rejection, accepted};
-use crate::policies::read_policy;
+use crate::not_run::{NotRun, Rejection};
+use crate::policies::PolicyFormat;
 use crate::route::read_route;
-use crate::scripts::read_script;
-use crate::targets::{NO_ROOM, read_target_file};
-use crate::topologies::read_topology;
+use crate::scripts::ScriptFormat;
+use crate::targets::{NO_ROOM, TargetFormat};
+use crate::topologies::TopologyFormat;
 use crate::words::{Command, DirectFiles, Pacing, PlanFiles, ReplayFiles, ViaFiles};
 use embed_plan::plan;
 use outside_core::Shelf;
@@ -41,7 +42,7 @@ fn prepare_check<'a, S: Shelf>(
     ensures kept { KeepsShelf S.lends S.content S.faults shelf.old shelf.new }
     ensures cause { StopsReading result (S.faults shelf.old) (S.faults shelf.new) }
 {
-    let policy_file = accepted(FaultKind::Policy, read_policy(alloc, latest, shelf, name))?;
+    let policy_file = read_input(alloc, &PolicyFormat(latest), shelf, name)?;
     let text = print(alloc, &policy_file.lines)?;
     Ok(Job::Write(text.into_vec()))
 }
@@ -61,14 +62,8 @@ fn prepare_plan<'a, S: Shelf>(
     ensures kept { KeepsShelf S.lends S.content S.faults shelf.old shelf.new }
     ensures cause { StopsReading result (S.faults shelf.old) (S.faults shelf.new) }
 {
-    let policy_file = accepted(
-        FaultKind::Policy,
-        read_policy(alloc, files.latest, shelf, files.policy),
-    )?;
-    let target = accepted(
-        FaultKind::Target,
-        read_target_file(alloc, shelf, files.target),
-    )?;
+    let policy_file = read_input(alloc, &PolicyFormat(files.latest), shelf, files.policy)?;
+    let target = read_input(alloc, &TargetFormat, shelf, files.target)?;
     let plan = plan(alloc, &policy_file.policy, &target)?;
     if plan.fits {
         return Ok(Job::Write(plan.text));
@@ -95,11 +90,8 @@ fn prepare_direct<'a, S: Shelf>(
     ensures kept { KeepsShelf S.lends S.content S.faults shelf.old shelf.new }
     ensures cause { StopsReading result (S.faults shelf.old) (S.faults shelf.new) }
 {
-    let policy_file = accepted(
-        FaultKind::Policy,
-        read_policy(alloc, files.latest, shelf, files.policy),
-    )?;
-    let script = accepted(FaultKind::Script, read_script(alloc, shelf, files.script))?;
+    let policy_file = read_input(alloc, &PolicyFormat(files.latest), shelf, files.policy)?;
+    let script = read_input(alloc, &ScriptFormat, shelf, files.script)?;
     Ok(Job::Own(policy_file.policy, script, files.capture))
 }
 
@@ -119,19 +111,13 @@ fn prepare_replay<'a, S: Shelf>(
     ensures kept { KeepsShelf S.lends S.content S.faults shelf.old shelf.new }
     ensures cause { StopsReading result (S.faults shelf.old) (S.faults shelf.new) }
 {
-    let policy_file = accepted(
-        FaultKind::Policy,
-        read_policy(alloc, files.latest, shelf, files.policy),
-    )?;
-    let target = accepted(
-        FaultKind::Target,
-        read_target_file(alloc, shelf, files.target),
-    )?;
+    let policy_file = read_input(alloc, &PolicyFormat(files.latest), shelf, files.policy)?;
+    let target = read_input(alloc, &TargetFormat, shelf, files.target)?;
     let laid = lay(alloc, policy_file.policy, target)?;
     let capture = files.capture;
     match files.pacing {
         Pacing::Script(name, named) => {
-            let script = accepted(FaultKind::Script, read_script(alloc, shelf, name))?;
+            let script = read_input(alloc, &ScriptFormat, shelf, name)?;
             Ok(Job::Watched(laid, script, named, capture))
         }
         Pacing::Link(rate) => Ok(Job::Alone(laid, Drive::Link(LinkRate::plain(rate)), capture)),
@@ -156,18 +142,12 @@ fn prepare_via<'a, S: Shelf>(
     ensures kept { KeepsShelf S.lends S.content S.faults shelf.old shelf.new }
     ensures cause { StopsReading result (S.faults shelf.old) (S.faults shelf.new) }
 {
-    let policy_file = accepted(
-        FaultKind::Policy,
-        read_policy(alloc, files.latest, shelf, files.policy),
-    )?;
-    let middle = accepted(FaultKind::Tree, read_topology(alloc, shelf, files.topology))?;
+    let policy_file = read_input(alloc, &PolicyFormat(files.latest), shelf, files.policy)?;
+    let middle = read_input(alloc, &TopologyFormat, shelf, files.topology)?;
     let given = read_route(alloc, &policy_file.policy, &middle, shelf, files.map)?;
-    let target = accepted(
-        FaultKind::Target,
-        read_target_file(alloc, shelf, files.target),
-    )?;
+    let target = read_input(alloc, &TargetFormat, shelf, files.target)?;
     let laid = lay_along(alloc, policy_file.policy, &middle, &given, target)?;
-    let script = accepted(FaultKind::Script, read_script(alloc, shelf, files.script))?;
+    let script = read_input(alloc, &ScriptFormat, shelf, files.script)?;
     Ok(Job::Alone(laid, Drive::Script(script), files.capture))
 }
 

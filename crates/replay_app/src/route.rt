@@ -8,8 +8,9 @@ ghost use Rattle.replay_app.specs.Decided.{IsOfKind, StopsReading};
 ghost use Rattle.replay_app.specs.Routes.{IsRouteRead};
 ghost use Rattle.replay_app.specs.Via.{IsRoute, NamesNodes, names_of, pair_line, pair_text};
 
-use crate::maps::read_map_file;
-use crate::not_run::{NotRun, Rejection, accepted};
+use crate::format::read_input;
+use crate::maps::MapFormat;
+use crate::not_run::{NotRun, Rejection};
 use crate::refusal::Refusal;
 use mapcheck_core::{Given, MapFault};
 use outside_core::Shelf;
@@ -61,10 +62,7 @@ pub fn read_route<S: Shelf>(
     ensures kept { KeepsShelf S.lends S.content S.faults shelf.old shelf.new }
     ensures cause { StopsReading result (S.faults shelf.old) (S.faults shelf.new) }
 {
-    let map_file = accepted(
-        FaultKind::Map,
-        read_map_file(alloc, policy, middle, shelf, name),
-    )?;
+    let map_file = read_input(alloc, &MapFormat { policy, middle }, shelf, name)?;
     let Some(fault) = map_file.fault else {
         return Ok(map_file.given);
     };

@@ -23,8 +23,7 @@ use events_core::Script;
 use outside_core::Shelf;
 use policy_core::Policy;
 use policy_text::Lines;
-use replay_app::{NotRun, PolicyFile, accepted, lay, read_policy, read_script, read_target_file};
-use report_core::FaultKind;
+use replay_app::{NotRun, PolicyFormat, ScriptFormat, TargetFormat, lay, read_input};
 use std::alloc::Global;
 
 /// What a study runs once its inputs are accepted, but for the capture, which the run reads.
@@ -64,7 +63,7 @@ fn prepare_place<S: Shelf>(
     let Some(name) = study.target else {
         return Ok(Place::Own(policy));
     };
-    let target = accepted(FaultKind::Target, read_target_file(alloc, shelf, name))?;
+    let target = read_input(alloc, &TargetFormat, shelf, name)?;
     Ok(Place::Laid(lay(alloc, policy, target)?))
 }
 
@@ -89,7 +88,7 @@ fn prepare_script<S: Shelf>(
     let Drive::Script(name) = drive else {
         return Ok(None);
     };
-    let script = accepted(FaultKind::Script, read_script(alloc, shelf, name))?;
+    let script = read_input(alloc, &ScriptFormat, shelf, name)?;
     Ok(Some(script))
 }
 
@@ -113,14 +112,11 @@ pub fn prepare_study<S: Shelf>(
     ensures kept { KeepsShelf S.lends S.content S.faults shelf.old shelf.new }
     ensures cause { StopsReading result (S.faults shelf.old) (S.faults shelf.new) }
 {
-    let PolicyFile { lines, policy } = accepted(
-        FaultKind::Policy,
-        read_policy(alloc, study.latest, shelf, study.policy),
-    )?;
-    let place = prepare_place(alloc, policy, study, shelf)?;
+    let policy_file = read_input(alloc, &PolicyFormat(study.latest), shelf, study.policy)?;
+    let place = prepare_place(alloc, policy_file.policy, study, shelf)?;
     let script = prepare_script(alloc, study.drive, shelf)?;
     Ok(Prepared {
-        lines,
+        lines: policy_file.lines,
         place,
         script,
     })

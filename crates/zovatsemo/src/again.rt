@@ -11,7 +11,7 @@ use front_defs::{Command, Options};
 use front_upgrade::reserved_in;
 use front_warnings::{Counts, Walk, capture_warnings, damage_text, policy_warnings};
 use outside_core::FileShelf;
-use replay_app::{PolicyFile, Read as Reading, read_policy};
+use replay_app::{PolicyFile, PolicyFormat, read_input};
 use report_core::FaultKind;
 use std::alloc::AllocError;
 use std::fs::{self, File};
@@ -108,10 +108,8 @@ fn policy_again(rt: &HostRuntime, options: &Options<'_>) -> Result<Option<Policy
     if size_of(rt, name).is_none() {
         return Ok(None);
     }
-    match read_policy(rt.alloc(), LATEST, &mut FileShelf::new(rt.clone()?), name) {
-        Ok(Reading::Accepted(policy_file)) => Ok(Some(policy_file)),
-        _ => Ok(None),
-    }
+    let mut shelf = FileShelf::new(rt.clone()?);
+    Ok(read_input(rt.alloc(), &PolicyFormat(LATEST), &mut shelf, name).ok())
 }
 
 /// Returns the message for an accepted policy that can't be written as one of version 3, from a

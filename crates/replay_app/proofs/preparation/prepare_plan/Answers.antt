@@ -8,26 +8,26 @@ use Rattle.replay_app.proofs.preparation.prepare_plan.Goals as goal
 pub returns-in_err-policy_file-clause-job : goal.returns-in_err-policy_file-clause-job
 returns-in_err-policy_file-clause-job g c = λ contents told taps.
     let f = c.args.files.now in
-    policy_out f.latest (contents f.policy.now) _ c.read_policy.result (rw (told.0) at c.read_policy.ensures.read) (IsJobOutput contents taps)
-    c.in_err-policy_file.field-0.0 c.in_err-policy_file.ensures c.from_residual.result (passed _ _ c.from_residual.ensures.1)
+    policy_out f.latest (contents f.policy.now) _ (IsJobOutput contents taps)
+    c.in_err-policy_file.field-0.0 (rw (told.0) at c.in_err-policy_file.ensures.read) c.in_err-policy_file.ensures.kind c.from_residual.result (passed _ _ c.from_residual.ensures.1)
 
 pub returns-in_err-target-clause-job : goal.returns-in_err-target-clause-job
 returns-in_err-target-clause-job g c = λ contents told taps.
     let f = c.args.files.now in
-    let later = told-later _ _ _ _ contents (f.target.now ∷ []) c.read_policy.ensures.kept.files told.1 in
+    let later = told-later _ _ _ _ contents (f.target.now ∷ []) c.in_ok-policy_file.ensures.kept.files told.1 in
     decided_so _ _ (IsJobOutput contents taps) c.from_residual-in_err-target.result
-    (policy_same f.latest (contents f.policy.now) _ c.read_policy.result (rw (told.0) at c.read_policy.ensures.read) c.in_ok-policy_file.policy_file c.in_ok-policy_file.ensures)
-    (target_out (contents f.target.now) _ c.read_target_file.result (rw (later.0) at c.read_target_file.ensures.read) (IsJobOutput contents taps)
-    c.in_err-target.field-0.0 c.in_err-target.ensures c.from_residual-in_err-target.result (passed _ _ c.from_residual-in_err-target.ensures.1))
+    (policy_same f.latest (contents f.policy.now) _ c.in_ok-policy_file.policy_file (rw told.0 at c.in_ok-policy_file.ensures.read))
+    (target_out (contents f.target.now) _ (IsJobOutput contents taps)
+    c.in_err-target.field-0.0 (rw (later.0) at c.in_err-target.ensures.read) c.in_err-target.ensures.kind c.from_residual-in_err-target.result (passed _ _ c.from_residual-in_err-target.ensures.1))
 
 pub returns-then-plan-clause-job : goal.returns-then-plan-clause-job
 returns-then-plan-clause-job g c = λ contents told taps.
     let f = c.args.files.now in
-    let later = told-later _ _ _ _ contents (f.target.now ∷ []) c.read_policy.ensures.kept.files told.1 in
+    let later = told-later _ _ _ _ contents (f.target.now ∷ []) c.in_ok-policy_file.ensures.kept.files told.1 in
     same_trans _ _ _
-    (policy_same f.latest (contents f.policy.now) _ c.read_policy.result (rw (told.0) at c.read_policy.ensures.read) c.in_ok-policy_file.policy_file c.in_ok-policy_file.ensures)
+    (policy_same f.latest (contents f.policy.now) _ c.in_ok-policy_file.policy_file (rw told.0 at c.in_ok-policy_file.ensures.read))
     (same_trans _ _ _
-    (target_same (contents f.target.now) _ c.read_target_file.result (rw (later.0) at c.read_target_file.ensures.read) c.in_ok-target.target c.in_ok-target.ensures)
+    (target_same (contents f.target.now) _ c.in_ok-target.target (rw (later.0) at c.in_ok-target.ensures.read))
     (planned_same c.in_ok-policy_file.policy_file.policy.policy c.in_ok-target.target _ c.in_ok-plan.plan.text.items (rw c.if-plan.true at c.in_ok-plan.ensures.plan)))
 
 pub returns-then-plan-clause-fits : goal.returns-then-plan-clause-fits
@@ -36,9 +36,9 @@ returns-then-plan-clause-fits g c = (plans _ _ _ _, tt)
 pub returns-clause-job : goal.returns-clause-job
 returns-clause-job g c = λ contents told taps.
     let f = c.args.files.now in
-    let later = told-later _ _ _ _ contents (f.target.now ∷ []) c.read_policy.ensures.kept.files told.1 in
+    let later = told-later _ _ _ _ contents (f.target.now ∷ []) c.in_ok-policy_file.ensures.kept.files told.1 in
     same_trans _ _ _
-    (policy_same f.latest (contents f.policy.now) _ c.read_policy.result (rw (told.0) at c.read_policy.ensures.read) c.in_ok-policy_file.policy_file c.in_ok-policy_file.ensures)
+    (policy_same f.latest (contents f.policy.now) _ c.in_ok-policy_file.policy_file (rw told.0 at c.in_ok-policy_file.ensures.read))
     (same_trans _ _ _
-    (target_same (contents f.target.now) _ c.read_target_file.result (rw (later.0) at c.read_target_file.ensures.read) c.in_ok-target.target c.in_ok-target.ensures)
+    (target_same (contents f.target.now) _ c.in_ok-target.target (rw (later.0) at c.in_ok-target.ensures.read))
     (planned_same c.in_ok-policy_file.policy_file.policy.policy c.in_ok-target.target _ c.in_ok-plan.plan.text.items (rw c.if-plan.false at c.in_ok-plan.ensures.plan)))

@@ -14,16 +14,14 @@ returns-in_err-target-clause-place g c = λ contents told entries.
     let after = IsRunUnder c.args.study.now contents (policy_file_as entries c.args.policy) in
     let run = λ (place : Place). after (laid_of place) in
     let r = c.from_residual.result in
-    by_target c.args.study.now c.in-Some.name _ contents after run r c.in-Some.is (target_out (contents c.in-Some.name.now) _ c.read_target_file.result
-    (rw (rw c.in-Some.is at told).0 at c.read_target_file.ensures.read) run c.in_err-target.field-0.0 c.in_err-target.ensures r (passed _ _ c.from_residual.ensures.1))
+    by_target c.args.study.now c.in-Some.name _ contents after run r c.in-Some.is (target_out (contents c.in-Some.name.now) _ run c.in_err-target.field-0.0 (rw (rw c.in-Some.is at told).0 at c.in_err-target.ensures.read) c.in_err-target.ensures.kind r (passed _ _ c.from_residual.ensures.1))
 
 pub returns-in_err-lay-clause-place : goal.returns-in_err-lay-clause-place
 returns-in_err-lay-clause-place g c = λ contents told entries.
     let after = IsRunUnder c.args.study.now contents (policy_file_as entries c.args.policy) in
     let run = λ (place : Place). after (laid_of place) in
     let r = c.from_residual-in_err-lay.result in
-    by_target c.args.study.now c.in-Some.name _ contents after run r c.in-Some.is (decided_so _ _ run r (target_same (contents c.in-Some.name.now) _ c.read_target_file.result
-    (rw (rw c.in-Some.is at told).0 at c.read_target_file.ensures.read) c.in_ok-target.target c.in_ok-target.ensures)
+    by_target c.args.study.now c.in-Some.name _ contents after run r c.in-Some.is (decided_so _ _ run r (target_same (contents c.in-Some.name.now) _ c.in_ok-target.target (rw (rw c.in-Some.is at told).0 at c.in_ok-target.ensures.read))
     (room_out c.args.policy c.in_ok-target.target (λ l. after (Some l)) run c.in_err-lay.field-0.0 c.in_err-lay.ensures.laid c.in_err-lay.ensures.kind r (passed _ _ c.from_residual-in_err-lay.ensures.1)))
 
 pub returns-clause-place : goal.returns-clause-place
@@ -32,6 +30,5 @@ returns-clause-place g c = λ contents told entries.
     let is = c.in_ok-lay.ensures.laid in
     let after = IsRunUnder c.args.study.now contents (policy_file_as entries c.args.policy) in
     let end = after (Some (laid_in laid.map c.in_ok-target.target)) in
-    by_target c.args.study.now c.in-Some.name _ contents after (λ (place : Place). after (laid_of place)) (Ok (Laid laid)) c.in-Some.is (same_trans _ _ _ (target_same (contents c.in-Some.name.now) _ c.read_target_file.result
-    (rw (rw c.in-Some.is at told).0 at c.read_target_file.ensures.read) c.in_ok-target.target c.in_ok-target.ensures)
+    by_target c.args.study.now c.in-Some.name _ contents after (λ (place : Place). after (laid_of place)) (Ok (Laid laid)) c.in-Some.is (same_trans _ _ _ (target_same (contents c.in-Some.name.now) _ c.in_ok-target.target (rw (rw c.in-Some.is at told).0 at c.in_ok-target.ensures.read))
     (same_trans _ _ _ (room_same c.args.policy c.in_ok-target.target (λ l. after (Some l)) laid is) (subst (λ (l : Placed). AreSame end (after (laid_of (Laid l)))) (sym is.is) (exact end))))

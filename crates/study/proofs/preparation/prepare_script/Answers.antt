@@ -13,9 +13,8 @@ pub returns-in_err-script-clause-script : goal.returns-in_err-script-clause-scri
 returns-in_err-script-clause-script g c = λ contents told view laid policy_file capture.
     let run = λ (d : Drive) (steps : Option (List Step)). IsPacedRun d view laid policy_file (steps_of steps) capture in
     let r = c.from_residual.result in
-    subst (λ (d : Drive). IsDecided (IsDriven d view laid policy_file capture contents) (run d) r) (sym c.in-Script.is) (script_out (contents c.in-Script.name.now) _ c.read_script.result
-    (rw (rw c.in-Script.is at told).0 at c.read_script.ensures.read) (run (Script c.in-Script.name)) c.in_err-script.field-0.0 c.in_err-script.ensures r (passed _ _ c.from_residual.ensures.1))
+    subst (λ (d : Drive). IsDecided (IsDriven d view laid policy_file capture contents) (run d) r) (sym c.in-Script.is) (script_out (contents c.in-Script.name.now) _ (run (Script c.in-Script.name)) c.in_err-script.field-0.0 (rw (rw c.in-Script.is at told).0 at c.in_err-script.ensures.read) c.in_err-script.ensures.kind r (passed _ _ c.from_residual.ensures.1))
 
 pub returns-clause-script : goal.returns-clause-script
 returns-clause-script g c = λ contents told view laid policy_file capture.
-    rw c.in-Script.is (script_same (contents c.in-Script.name.now) _ c.read_script.result (rw (rw c.in-Script.is at told).0 at c.read_script.ensures.read) c.in_ok-script.script c.in_ok-script.ensures)
+    rw c.in-Script.is (script_same (contents c.in-Script.name.now) _ c.in_ok-script.script (rw (rw c.in-Script.is at told).0 at c.in_ok-script.ensures.read))
