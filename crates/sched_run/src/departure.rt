@@ -2,6 +2,7 @@
 ghost use Rattle.std.specs.Prelude.{◌≡◌, None, [], ◌∷◌, OnOk, OnErr};
 ghost use Rattle.sched_defs.specs.Events.{Depart, outcomes};
 ghost use Rattle.sched_core.specs.Standing.{ForEachState};
+ghost use Rattle.sched_run.specs.declared.departure.Departure.{Departure};
 ghost use Rattle.sched_run.specs.RecordingKinds.{recording_any};
 ghost use Rattle.sched_run.specs.Played.{Departs};
 ghost use Rattle.sched_run.specs.Recording.{KeepsRecord};

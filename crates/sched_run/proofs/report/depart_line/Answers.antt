@@ -1,4 +1,5 @@
-use Rattle.sched_run.proofs.Prelude.{ℕ, None, ◌∙◌, refl, sym, List, subst, ap, Some, ◌≤◌, length, ◌<◌, err_from_is_err_and, Departed, Policy, nodes, CutsOff, Tells}
+use Rattle.sched_run.proofs.Prelude.{ℕ, None, ◌∙◌, refl, sym, List, subst, ap, Some, ◌≤◌, length, ◌<◌, err_from_is_err_and, Departed, Policy, nodes, CutsOff, Tells, Depart, line_of}
+use Rattle.sched_run.specs.declared.departure.Departure.{Departure}
 use Rattle.sched_run.proofs.DepartureLaws.{departs}
 use Rattle.sched_run.proofs.LineLaws.{Left, left, ranks_left, line_left, named_leaf}
 use Rattle.sched_run.proofs.report.depart_line.Goals as goal
@@ -35,8 +36,10 @@ returns-in_err-departed-in-Some-clause-cut g c =
     let h : Left policy s c.in-Some.departed = left policy s c.in-Some.departed c.requires.can.accepted sound (c.in-Some.ensures.departs s sound stood).value in
     let named = named_leaf policy (g.N.NodeNames.policy c.args.names.now) h.leaver_is.digits c.in-Some.departed.leaf c.name-leaf.result.now c.requires.can.names h.leaf_is (ap (λ (z : Departed). z.leaf) h.told) c.name-leaf.ensures.name in
     let same = c.ranks.ensures.ranks ∙ ranks_left policy s c.in-Some.departed c.depart.new.trace h (c.in-Some.ensures.departs s sound stood).taken in
-    let line = line_left policy s c.in-Some.departed (g.D.IntoDeparture.departure c.args.departure).event c.name-leaf.result.now c.ranks.result.now (g.D.IntoDeparture.departure c.args.departure).start h named same in
-    subst (λ (l : List ℕ). CutsOff g.K.Sink.written c.args.sink.now c.args.report.now c.departed.new.sink l) line c.in_err-departed-in-Some.ensures.cut)
+    let given = c.into_departure-event.result in
+    let line = line_left policy s c.in-Some.departed given.event c.name-leaf.result.now c.ranks.result.now given.start h named same in
+    subst (λ (d : Departure). CutsOff g.K.Sink.written c.args.sink.now c.args.report.now c.departed.new.sink (line_of policy d.event (Depart d.start) s)) c.into_departure-event.ensures
+    (subst (λ (l : List ℕ). CutsOff g.K.Sink.written c.args.sink.now c.args.report.now c.departed.new.sink l) line c.in_err-departed-in-Some.ensures.cut))
 
 pub returns-in_ok-departed-in-Some-clause-text : goal.returns-in_ok-departed-in-Some-clause-text
 returns-in_ok-departed-in-Some-clause-text g c =
@@ -45,8 +48,10 @@ returns-in_ok-departed-in-Some-clause-text g c =
     let h : Left policy s c.in-Some.departed = left policy s c.in-Some.departed c.requires.can.accepted sound (c.in-Some.ensures.departs s sound stood).value in
     let named = named_leaf policy (g.N.NodeNames.policy c.args.names.now) h.leaver_is.digits c.in-Some.departed.leaf c.name-leaf.result.now c.requires.can.names h.leaf_is (ap (λ (z : Departed). z.leaf) h.told) c.name-leaf.ensures.name in
     let same = c.ranks.ensures.ranks ∙ ranks_left policy s c.in-Some.departed c.depart.new.trace h (c.in-Some.ensures.departs s sound stood).taken in
-    let line = line_left policy s c.in-Some.departed (g.D.IntoDeparture.departure c.args.departure).event c.name-leaf.result.now c.ranks.result.now (g.D.IntoDeparture.departure c.args.departure).start h named same in
-    subst (λ (l : List ℕ). Tells g.K.Sink.written c.args.sink.now c.args.report.now c.departed.new.sink c.departed.new.self l) line c.in_ok-departed-in-Some.ensures.ok
+    let given = c.into_departure-event.result in
+    let line = line_left policy s c.in-Some.departed given.event c.name-leaf.result.now c.ranks.result.now given.start h named same in
+    subst (λ (d : Departure). Tells g.K.Sink.written c.args.sink.now c.args.report.now c.departed.new.sink c.departed.new.self (line_of policy d.event (Depart d.start) s)) c.into_departure-event.ensures
+    (subst (λ (l : List ℕ). Tells g.K.Sink.written c.args.sink.now c.args.report.now c.departed.new.sink c.departed.new.self l) line c.in_ok-departed-in-Some.ensures.ok)
 
 pub returns-in_err-departed-in-Some-clause-departs : goal.returns-in_err-departed-in-Some-clause-departs
 returns-in_err-departed-in-Some-clause-departs g c =
