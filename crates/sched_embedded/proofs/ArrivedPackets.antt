@@ -4,8 +4,8 @@ use Rattle.sched_embedded.proofs.LiftMoves.{pushed, spilled}
 use Rattle.sched_embedded.proofs.PushedPaths.{HasLiftedPath}
 
 module _ (policy : Policy) (p : Packet) (s : SourceState) (l : Laid) (good : IsGoodMap (length l.arities) l.images) (before : Family) (held : HoldsLift l before s.tree)
-    (lifted : LiftedPath) (way : Way) (has : HasLiftedPath l lifted way) (digits : way.digits ≡ (class_of policy p).leaf) (ranks : way.ranks ≡ arrival_ranks policy p s)
-    (at given : List ℕ) (image : at ≡ lifted.image.items) (lifted : given ≡ lift_ranks l.images way.digits way.ranks)
+    (lifted_path : LiftedPath) (way : Way) (has : HasLiftedPath l lifted_path way) (digits : way.digits ≡ (class_of policy p).leaf) (ranks : way.ranks ≡ arrival_ranks policy p s)
+    (at given : List ℕ) (image : at ≡ lifted_path.image.items) (lifted : given ≡ lift_ranks l.images way.digits way.ranks)
   where
     at-image : at ≡ image_map l.images way.digits
     at-image = image ∙ has.path_leads.image

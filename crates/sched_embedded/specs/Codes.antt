@@ -19,8 +19,8 @@ laid_code = code_by (Tree Address × List ℕ) (coded× (tree_code (coded_list c
 pub one_way_to_be_the_same : (t u : Topology) → IsProp (t ≡ u)
 one_way_to_be_the_same t u = Coded-set (tree_code coded_unit) t u
 
-IsLiftedPathTo-prop : (images : Tree Address) (address : Address) (lifted : LiftedPath) → IsProp (IsLiftedPathTo images address lifted)
-IsLiftedPathTo-prop images address lifted a b i = record {
+IsLiftedPathTo-prop : (images : Tree Address) (address : Address) (lifted_path : LiftedPath) → IsProp (IsLiftedPathTo images address lifted_path)
+IsLiftedPathTo-prop images address lifted_path a b i = record {
   image = Coded-set (coded_list coded_ℕ) _ _ a.image b.image i;
   long = Coded-set coded_ℕ _ _ a.long b.long i;
   steps = Coded-set (coded_list coded_ℕ) _ _ a.steps b.steps i;
@@ -31,7 +31,7 @@ IsLiftedPathTo-prop images address lifted a b i = record {
 pub one_way_to_have_lifted_paths : (images : Tree Address) (policy : Policy) (lifted_paths : List LiftedPath) → IsProp (HasLiftedPaths images policy lifted_paths)
 one_way_to_have_lifted_paths images policy lifted_paths a b i = record {
   whole = Coded-set coded_ℕ _ _ a.whole b.whole i;
-  each = λ n lifted at. IsLiftedPathTo-prop images (leaf_of policy n) lifted (a.each n lifted at) (b.each n lifted at) i;
+  each = λ n lifted_path at. IsLiftedPathTo-prop images (leaf_of policy n) lifted_path (a.each n lifted_path at) (b.each n lifted_path at) i;
 }
 
 IsLeafAddress-prop : (arities : List ℕ) (a : Address) → IsProp (IsLeafAddress arities a)

@@ -32,7 +32,7 @@ leaf_of policy n = (unwrap_or (class_at policy n) (record { marks = no_marks; le
 -- a lifted path to the leaf of each class
 pub record HasLiftedPaths (images : Tree Address) (policy : Policy) (lifted_paths : List LiftedPath) : Type 0 where
   pub whole : length lifted_paths ≡ length policy.classes
-  pub each : (n : ℕ) (lifted : LiftedPath) → slice_get lifted_paths n ≡ Some lifted → IsLiftedPathTo images (leaf_of policy n) lifted
+  pub each : (n : ℕ) (lifted_path : LiftedPath) → slice_get lifted_paths n ≡ Some lifted_path → IsLiftedPathTo images (leaf_of policy n) lifted_path
 
 -- room for the digits and the ranks on the path to a leaf
 pub record HasRoomForOne (images : Tree Address) (arities : List ℕ) (digits ranks : ℕ) : Type 0 where

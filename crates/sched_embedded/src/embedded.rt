@@ -119,12 +119,12 @@ impl<'a, F: Fabric> Scheduler for Embedded<'a, F> {
         if self.own.is_full(packet) {
             return Ok(Arrival::Dropped(self.own.drop_packet(packet)));
         }
-        let lifted = &self.lifted_paths[packet.class as usize];
-        under.reserve(&lifted.image)?;
+        let lifted_path = &self.lifted_paths[packet.class as usize];
+        under.reserve(&lifted_path.image)?;
         let leaf = self.own.admit(packet, trace)?;
         let embedding = &mut self.embedding;
-        lifted.lift(trace.ranks(), &mut embedding.ranks);
-        under.push(&lifted.image, &embedding.ranks, packet.number);
+        lifted_path.lift(trace.ranks(), &mut embedding.ranks);
+        under.push(&lifted_path.image, &embedding.ranks, packet.number);
         Ok(Arrival::Pushed(leaf))
     }
 

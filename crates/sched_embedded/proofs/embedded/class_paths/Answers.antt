@@ -10,14 +10,14 @@ to-requires-clause-leaf c =
 pub loop-class-preserved : goal.loop-class-preserved
 loop-class-preserved c =
     let lifted_paths : List LiftedPath = c.loop-class.lifted_paths.items in
-    let lifted : LiftedPath = c.in_ok-to.field-0 in
+    let lifted_path : LiftedPath = c.in_ok-to.field-0 in
     let told : leaf_of c.args.policy.now.policy c.loop-class.class-index ≡ c.address.result.now
     = leaf-told _ c.args.policy.now.policy c.classes-class-items.result.now c.loop-class.class-index c.class-item.result c.classes-class-items.ensures.classes c.loop-class-test.true c.class-item.is ∙ sym c.address.ensures.address in
-    let there : IsLiftedPathTo c.args.map.now (leaf_of c.args.policy.now.policy (length lifted_paths)) lifted
-    = subst (λ (z : Address). IsLiftedPathTo c.args.map.now z lifted) (sym (ap (leaf_of c.args.policy.now.policy) c.loop-class.invariant.many ∙ told)) c.in_ok-to.ensures.lifted in
+    let there : IsLiftedPathTo c.args.map.now (leaf_of c.args.policy.now.policy (length lifted_paths)) lifted_path
+    = subst (λ (z : Address). IsLiftedPathTo c.args.map.now z lifted_path) (sym (ap (leaf_of c.args.policy.now.policy) c.loop-class.invariant.many ∙ told)) c.in_ok-to.ensures.lifted in
     record {
-      many = ap length c.in_ok-push.ensures.items ∙ length-append lifted_paths (lifted ∷ []) ∙ ap (λ (n : ℕ). n + 1) c.loop-class.invariant.many;
-      each = λ n x e. one_more (λ m. IsLiftedPathTo c.args.map.now (leaf_of c.args.policy.now.policy m)) lifted_paths lifted c.loop-class.invariant.each there n x (subst (λ (z : List LiftedPath). slice_get z n ≡ Some x) c.in_ok-push.ensures.items e);
+      many = ap length c.in_ok-push.ensures.items ∙ length-append lifted_paths (lifted_path ∷ []) ∙ ap (λ (n : ℕ). n + 1) c.loop-class.invariant.many;
+      each = λ n x e. one_more (λ m. IsLiftedPathTo c.args.map.now (leaf_of c.args.policy.now.policy m)) lifted_paths lifted_path c.loop-class.invariant.each there n x (subst (λ (z : List LiftedPath). slice_get z n ≡ Some x) c.in_ok-push.ensures.items e);
     }
 
 pub returns : goal.returns
