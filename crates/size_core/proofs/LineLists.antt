@@ -1,5 +1,5 @@
 -- The lines of nodes with a push.
-use Rattle.size_core.proofs.Prelude.{◌≡◌, ◌∙◌, ℕ, length, sym, ap, List, arith, subst, ◌+◌, ◌<◌, ◌≤◌, IfSome, Some, [], refl, ◌∷◌, Option, ◌++◌, suc, None, zero, Bool, inl, inr, nat_lt, ◌⊎◌, append-nil, cases_lt, le-ltb, lt-ltb, slice_get, option_map, unwrap_or, Address, Uses, address_in, Keys, IsOnce, figures_of, lines_of, line_with, line_if, Line, line_address}
+use Rattle.size_core.proofs.Prelude.{◌≡◌, ◌∙◌, ℕ, length, sym, ap, List, arith, subst, ◌<◌, ◌≤◌, IfSome, Some, [], refl, ◌∷◌, Option, ◌++◌, suc, None, zero, Bool, inl, inr, nat_lt, ◌⊎◌, append-nil, cases_lt, le-ltb, lt-ltb, slice_get, option_map, unwrap_or, Address, Uses, address_in, Keys, IsOnce, figures_of, lines_of, line_with, line_if, Line, line_address}
 use Rattle.size_core.proofs.Lists.{each_push, each_weaker}
 
 -- a line is that of one of the first nodes, which has a push

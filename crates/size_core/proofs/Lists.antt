@@ -1,5 +1,5 @@
 -- Properties of each item of a list, by index.
-use Rattle.size_core.proofs.Prelude.{◌≡◌, ◌∙◌, ℕ, length, sym, ap, List, arith, subst, ◌+◌, ◌<◌, IfSome, Some, [], refl, ◌∷◌, Option, ◌++◌, suc, None, zero, Bool, ◌≢◌, set, ForSome, slice_get, option_map, Vec, Address, AreInside, address_in, Keys, Grows, IsHop, IsPath, AreUnused, unused_at, Has, Hop}
+use Rattle.size_core.proofs.Prelude.{◌≡◌, ℕ, length, List, arith, subst, ◌<◌, IfSome, Some, [], ◌∷◌, Option, ◌++◌, suc, None, zero, Bool, ◌≢◌, set, ForSome, slice_get, Vec, Address, AreInside, address_in, Keys, Grows, IsHop, IsPath, AreUnused, unused_at, Has, Hop}
 use Rattle.std.specs.declared.alloc.Global.{Global}
 use Rattle.size_core.specs.declared.node.Node.{Node}
 

@@ -1,5 +1,5 @@
 -- The names of the policy's nodes that the nodes of a target serve.
-use Rattle.size_core.proofs.Prelude.{◌≡◌, ◌∙◌, ℕ, length, sym, ap, List, arith, subst, ◌+◌, ◌<◌, ◌≤◌, IfSome, Some, [], refl, ◌∷◌, Option, ◌++◌, suc, None, zero, false, true, get_or, inl, inr, ◌≢◌, cases_lt, eq-eqb, true≢false, range_with_len, AllByRecursion, slice_get, Vec, nat_eq, image_map, address_at, HasAt, Policy, Laid, Address, Tree, nodes, IsServed, IsImage, address_in, Keys, IsOnce, name_in, IsNameAt}
+use Rattle.size_core.proofs.Prelude.{◌≡◌, ◌∙◌, ℕ, length, sym, ap, List, arith, subst, ◌+◌, ◌<◌, IfSome, Some, [], refl, ◌∷◌, Option, ◌++◌, suc, None, zero, false, true, get_or, inl, inr, ◌≢◌, cases_lt, eq-eqb, true≢false, range_with_len, AllByRecursion, slice_get, Vec, nat_eq, image_map, address_at, HasAt, Policy, Laid, Address, Tree, nodes, IsServed, address_in, Keys, IsOnce, name_in, IsNameAt}
 use Rattle.std.specs.declared.alloc.Global.{Global}
 use Rattle.std.specs.List.{IsDistinct}
 use lib.Pointwise.{pointwise}

@@ -1,11 +1,10 @@
 -- A run has one result.
-use Rattle.size_core.proofs.Prelude.{◌≡◌, ◌∙◌, ℕ, length, sym, ap, List, arith, subst, ◌+◌, ◌<◌, ◌≤◌, IfSome, Some, [], refl, ◌∷◌, Option, ◌++◌, suc, None, zero, map, append_assoc, ◌≢◌, append-nil, length-append, slice_get, option_map, unwrap_or, image_map, image_at, Policy, name_at, Laid, after-append, after-is, after, IsPrefixOf, Topology, topologies_of, topology_of, Address, Tree, IsAddressOf, SameShape, Trees, inner, leaf, more, none, root_of, subtree, subtree_in, Line, IsNameAt, Sized, line_of, AreSizesOf, IsSizeOf, HasImage, Use, NodeSize, StoreUse}
+use Rattle.size_core.proofs.Prelude.{◌≡◌, ◌∙◌, ℕ, length, sym, ap, List, arith, subst, ◌+◌, ◌<◌, ◌≤◌, IfSome, Some, [], refl, ◌∷◌, Option, ◌++◌, suc, None, zero, map, append_assoc, append-nil, length-append, slice_get, option_map, unwrap_or, Policy, name_at, Laid, after-append, after-is, after, IsPrefixOf, Topology, topologies_of, topology_of, Address, Tree, Trees, inner, leaf, more, none, root_of, subtree, subtree_in, Line, IsNameAt, Sized, line_of, IsSizeOf, HasImage, Use}
 use Rattle.tree_defs.proofs.Shapes.{topology_of-same, same_shape}
 use Rattle.embed_defs.specs.Placed.{IsApartFrom}
 use Rattle.embed_defs.specs.GoodMaps.{IsDeep, AreDeep, IsNested, AreNested}
 use Rattle.embed_defs.proofs.Addresses.{one_prefix}
 use Rattle.embed_defs.proofs.Subtrees.{same_address}
-use Rattle.size_core.specs.declared.size.Sizes as size
 use Rattle.size_core.specs.Laws.{Fits, SizesAreDetermined}
 
 -- ---- images

@@ -1,5 +1,5 @@
 -- The order of the nodes that have a push.
-use Rattle.size_core.proofs.Prelude.{◌≡◌, ◌∙◌, ℕ, length, sym, ap, List, arith, subst, ◌+◌, ◌<◌, ◌≤◌, Some, [], refl, ◌∷◌, Option, ◌++◌, suc, None, zero, map, Bool, false, true, nat_lt, take, cond, filter, slice_get, unwrap_or, Address, Uses, address_in, Keys, addresses, figures_of, lines_of, line_with, line_if, Line, with_pushes, Use}
+use Rattle.size_core.proofs.Prelude.{◌≡◌, ◌∙◌, ℕ, length, sym, ap, List, arith, ◌<◌, ◌≤◌, Some, [], refl, ◌∷◌, Option, ◌++◌, suc, zero, map, Bool, false, true, nat_lt, take, cond, unwrap_or, Address, Uses, address_in, Keys, addresses, figures_of, lines_of, line_with, line_if, Line, with_pushes, Use}
 
 -- uses by index are those by address
 abbrev pub ArePushesAt : Keys → Uses → (Address → Use) → Type 0

@@ -1,5 +1,5 @@
 -- A packet's path by index and by address.
-use Rattle.size_core.proofs.Prelude.{◌≡◌, ◌∙◌, ℕ, length, sym, ap, List, arith, subst, ◌+◌, ◌<◌, ◌≤◌, IfSome, Some, [], refl, ◌∷◌, Option, ◌++◌, suc, None, zero, map, Bool, false, true, append_assoc, get_or, inl, inr, ◌≢◌, if◌then◌else◌, drop, ◌==◌, take, append-nil, eq-eqb, ne_eqb, eqb-false, eqb-true, option_map_or, slice_get, option_map, unwrap_or, slice_index, nat_eq, after-append, after-is, Entry, after, Address, option_bind, Uses, Watched, passed_at, popped_along, pushed_along, rank_on, value_on, popped_at, pushed_at, first_of, passes, address_in, Keys, IsOnce, IsHop, IsPath, crossing_in, Crossing, crossing_along, entry_at, is_on, crossing_at, Use, pushed, popped, Hop, Limits, Passed}
+use Rattle.size_core.proofs.Prelude.{◌≡◌, ◌∙◌, ℕ, length, sym, ap, List, arith, subst, ◌+◌, IfSome, Some, [], refl, ◌∷◌, Option, ◌++◌, suc, None, map, Bool, false, true, append_assoc, ◌≢◌, if◌then◌else◌, drop, ◌==◌, take, append-nil, eq-eqb, ne_eqb, eqb-true, option_map_or, slice_get, option_map, unwrap_or, slice_index, nat_eq, after-append, after-is, Entry, after, Address, option_bind, Watched, passed_at, popped_along, pushed_along, rank_on, value_on, popped_at, pushed_at, first_of, passes, address_in, Keys, IsOnce, IsHop, IsPath, crossing_in, Crossing, crossing_along, entry_at, is_on, crossing_at, Use, pushed, popped, Hop, Limits}
 use Rattle.size_core.specs.declared.limits.Limit.{Limit}
 
 -- ---- paths from a node down

@@ -1,5 +1,5 @@
 -- The addresses of nodes in the order of their indices.
-use Rattle.size_core.proofs.Prelude.{◌≡◌, ◌∙◌, ℕ, length, sym, ap, List, arith, ◌+◌, [], refl, ◌∷◌, ◌++◌, suc, zero, map, Bool, false, true, if◌then◌else◌, take, ◌||◌, list_any, Vec, nat_eq, Address, Keys, Grows, addresses, add_paths, add_prefixes, add, add_path}
+use Rattle.size_core.proofs.Prelude.{◌≡◌, ◌∙◌, ℕ, length, ap, List, arith, ◌+◌, [], refl, ◌∷◌, ◌++◌, suc, Bool, false, true, if◌then◌else◌, take, ◌||◌, list_any, Vec, nat_eq, Address, Keys, Grows, addresses, add_paths, add_prefixes, add, add_path}
 use Rattle.std.specs.declared.alloc.Global.{Global}
 use Rattle.std.specs.Cmp.Lexicographic.{pointwise}
 use Rattle.indexmap.specs.IndexSet.{insert_key}

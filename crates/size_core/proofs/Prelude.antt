@@ -7,7 +7,7 @@ pub use Rattle.std.proofs.lemmas.Result.{on_ok_weaker}
 pub use Rattle.std.specs.List.{range_with_len, AllByRecursion, sum_by, list_any}
 pub use Rattle.std.specs.Option.{option_map_or, ForSome}
 pub use Rattle.std.specs.Prelude.{slice_get, option_map, Vec, unwrap_or, slice_index, nat_eq}
-pub use Rattle.embed_core.proofs.LaneLifts.{hops-lift, hops-within}
+pub use Rattle.embed_core.proofs.PathLifts.{lifted-lift, lifted-within}
 pub use Rattle.embed_defs.specs.Images.{image_map, image_at}
 pub use Rattle.embed_defs.specs.Lift.{lift_ranks}
 pub use Rattle.policy_core.specs.Numbering.{address_at, HasAt}

@@ -1,5 +1,5 @@
 -- Uses of nodes, hop by hop.
-use Rattle.size_core.proofs.Prelude.{◌≡◌, ◌∙◌, ℕ, length, sym, ap, List, arith, subst, ◌+◌, ◌<◌, ◌≤◌, IfSome, Some, [], refl, ◌∷◌, Option, ◌++◌, suc, None, zero, Bool, false, true, ◌-◌, get_or, inl, inr, nat_lt, ◌≢◌, if◌then◌else◌, set, drop, ◌==◌, ◌^◌, take, nat_le, eq-eqb, ne_eqb, lt-leb, take_all, slice_get, Queue, Uses, Watched, passed_at, popped_along, pushed_along, rank_on, value_on, popped_at, pushed_at, first_of, Use, pushed, Has, Follows, Hop, Limits, Passed}
+use Rattle.size_core.proofs.Prelude.{◌≡◌, ◌∙◌, ℕ, length, sym, ap, List, arith, subst, ◌<◌, ◌≤◌, IfSome, [], refl, ◌∷◌, Option, suc, zero, Bool, ◌-◌, get_or, ◌≢◌, if◌then◌else◌, set, drop, ◌==◌, take, eq-eqb, ne_eqb, take_all, slice_get, Queue, Uses, Watched, passed_at, popped_along, pushed_along, rank_on, value_on, popped_at, pushed_at, first_of, Use, pushed, Has, Follows, Hop, Limits, Passed}
 use Rattle.size_core.specs.declared.node.Node.{Node}
 use Rattle.size_core.specs.declared.queues.Queues.{Queues}
 

@@ -1,10 +1,8 @@
 -- The results of a sizing of a run are the sizes of the run's outcomes.
-use Rattle.size_core.proofs.Prelude.{◌≡◌, ◌∙◌, ℕ, length, sym, ap, List, arith, subst, ◌+◌, ◌<◌, ◌≤◌, IfSome, Some, [], refl, ◌∷◌, Option, ◌++◌, suc, None, zero, map, Bool, false, true, inl, inr, nat_lt, ◌≢◌, if◌then◌else◌, ◌==◌, ◌⊎◌, ◌*◌, option_map_or, slice_get, option_map, Vec, unwrap_or, slice_index, image_map, lift_ranks, Policy, sound_start, popped_is_held, sound_arrived, sound_departed, outcomes, Arrive, CanMake, Depart, Event, Outcome, departure, outcome, start, Leaver, SourceState, arrival_ranks, arrived, class_of, departed, dropped, is_full, leaver, leaving, left_from, left_with, Laid, leaf_of, Address, option_bind, Popping, Uses, Watched, popped_along, pushed_along, ClassHops, class_hops_in, watched_all, watched, first_of, address_in, Keys, IsOnce, IsPathTo, crossing_in, Sized, Crossing, crossing_along, entry_at, is_on, pop_sized, push_sized, sized, sized_all, Use, pushed, popped, Hop, Limits}
-use Rattle.std.proofs.Common.{Global}
+use Rattle.size_core.proofs.Prelude.{◌≡◌, ◌∙◌, ℕ, length, sym, ap, List, subst, ◌+◌, ◌<◌, Some, [], refl, ◌∷◌, Option, None, map, Bool, false, true, inl, inr, if◌then◌else◌, ◌⊎◌, option_map, slice_index, image_map, lift_ranks, Policy, popped_is_held, sound_arrived, sound_departed, outcomes, Arrive, CanMake, Depart, Event, Outcome, departure, start, SourceState, arrival_ranks, arrived, class_of, departed, is_full, leaver, leaving, Laid, leaf_of, Address, option_bind, Popping, Watched, popped_along, pushed_along, ClassHops, watched_all, watched, first_of, address_in, Keys, IsOnce, IsPathTo, crossing_in, Sized, Crossing, crossing_along, entry_at, is_on, pop_sized, push_sized, sized, sized_all, Use, popped, Limits}
 use Rattle.tree_defs.specs.SourceTree.{SourceTree, pop}
 use Rattle.packet_defs.specs.declared.packet.Packet.{Packet}
 use Rattle.policy_defs.specs.Accepted.{IsAccepted}
-use Rattle.sched_defs.specs.SourceState.{pushed as state_pushed}
 use Rattle.sched_defs.specs.Sound.{IsSound, IsAtItsLeaf}
 use Rattle.sched_defs.specs.Events as run
 use Rattle.sched_defs.proofs.Leaving.{arrives_at_a_leaf}

@@ -1,5 +1,5 @@
 -- The sizes of nodes, one by one.
-use Rattle.size_core.proofs.Prelude.{◌≡◌, ◌∙◌, ℕ, length, sym, ap, List, arith, subst, ◌+◌, ◌<◌, ◌≤◌, IfSome, Some, [], refl, ◌∷◌, Option, ◌++◌, suc, None, zero, get_or, nat_lt, ◌≢◌, set, slice_get, Uses, Keys, figures_of, lines_of, line_with, line_if, Line, Use, Has, HaveUses}
+use Rattle.size_core.proofs.Prelude.{◌≡◌, ◌∙◌, ℕ, length, sym, ap, List, arith, subst, ◌+◌, ◌<◌, ◌≤◌, IfSome, [], refl, ◌∷◌, Option, ◌++◌, suc, zero, get_or, nat_lt, ◌≢◌, set, slice_get, Uses, Keys, figures_of, lines_of, line_with, line_if, Line, Has, HaveUses}
 use Rattle.size_core.specs.declared.node.Node.{Node}
 use Rattle.size_core.specs.declared.node.Figures.{Figures}
 

@@ -1,9 +1,8 @@
 -- The results of a sizing of a run, from the uses of its nodes.
-use Rattle.size_core.proofs.Prelude.{◌≡◌, ◌∙◌, ℕ, length, sym, ap, List, arith, subst, ◌+◌, ◌<◌, ◌≤◌, IfSome, Some, [], refl, ◌∷◌, Option, ◌++◌, suc, None, zero, map, Bool, inl, inr, ◌⊎◌, ◌*◌, slice_get, option_map, Vec, unwrap_or, Policy, sound_start, outcomes, start, Laid, leaf_of, Address, Watched, ClassHops, class_hops_in, watched_all, address_in, Keys, IsOnce, IsPathTo, addresses, places, figures_of, lines_of, AreUnused, line_with, crossing_in, name_in, HasSizes, IsUnused, Line, IsNameAt, Sized, line_of, unused_at, AreSizesOf, IsSizeOf, line_address, with_pushes, crossing_of, no_sizes, sizes_after, Use, Has, HaveUses, Watches, WatchesAll, class_hops_of, Hop, Limits}
+use Rattle.size_core.proofs.Prelude.{◌≡◌, ◌∙◌, ℕ, length, sym, ap, List, arith, subst, ◌+◌, ◌<◌, IfSome, Some, [], refl, ◌∷◌, Option, suc, None, zero, map, Bool, inl, inr, ◌⊎◌, ◌*◌, slice_get, option_map, Vec, unwrap_or, Policy, sound_start, outcomes, start, Laid, leaf_of, Address, Watched, class_hops_in, watched_all, address_in, Keys, IsOnce, IsPathTo, addresses, places, figures_of, lines_of, AreUnused, line_with, crossing_in, name_in, HasSizes, Line, IsNameAt, Sized, line_of, unused_at, AreSizesOf, IsSizeOf, line_address, with_pushes, crossing_of, no_sizes, sizes_after, Use, Has, HaveUses, Watches, class_hops_of, Hop, Limits}
 use Rattle.std.proofs.Common.{Global}
 use Rattle.size_core.specs.declared.node.Node.{Node}
 use Rattle.size_core.specs.declared.size.Sizes as size
-use Rattle.size_core.specs.declared.sizing.Sizing.{Sizing}
 use Rattle.size_core.specs.Laws.{SizesAreOfTheRun}
 use Rattle.size_core.proofs.Lists.{each_weaker, in_range}
 use Rattle.size_core.proofs.LineLists.{IsLineOf, each_line, line_there, line_once, known_at}

@@ -1,5 +1,5 @@
 -- Ranks in the stores of a node.
-use Rattle.size_core.proofs.Prelude.{◌≡◌, ◌∙◌, ℕ, length, sym, ap, List, arith, subst, ◌+◌, ◌<◌, ◌≤◌, [], refl, ◌∷◌, ◌++◌, suc, zero, map, Bool, false, true, ◌-◌, get_or, nat_lt, if◌then◌else◌, set, drop, ◌==◌, max, deque_items, deque_len, replicate, length-append, get_or-map, length-map, map-set, flow_of, store_popped, Stores, head_in, leads, store_pushed, heads_in, last_rank, flow_popped, flow_pushed, with_flow, with_spill, StoreUse}
+use Rattle.size_core.proofs.Prelude.{◌≡◌, ◌∙◌, ℕ, length, sym, ap, List, arith, subst, ◌+◌, ◌<◌, ◌≤◌, [], refl, ◌∷◌, ◌++◌, suc, zero, map, Bool, false, true, ◌-◌, get_or, nat_lt, if◌then◌else◌, set, drop, max, deque_items, replicate, length-append, get_or-map, length-map, map-set, flow_of, store_popped, Stores, head_in, leads, store_pushed, heads_in, last_rank, flow_popped, flow_pushed, with_flow, with_spill, StoreUse}
 use Rattle.std.proofs.Common.{Global}
 use Rattle.std.specs.declared.collections.VecDeque.{VecDeque}
 

@@ -1,5 +1,5 @@
 -- The use of a queue, push by push and pop by pop.
-use Rattle.size_core.proofs.Prelude.{◌≡◌, ◌∙◌, ℕ, length, sym, ap, List, arith, subst, ◌+◌, ◌<◌, ◌≤◌, Some, [], refl, ◌∷◌, Option, ◌++◌, suc, None, zero, Bool, false, true, ◌-◌, get_or, inl, inr, if◌then◌else◌, set, drop, ◌==◌, max, min, nat_le, cases_lt, ne_eqb, option_map, Queue, Entry, Taking, put, take_least, sooner, take_from, figures_of, flow_of, store_popped, Stores, leads, Use, popped, spread, highest, lowest_from, taken, Has, IsCrest}
+use Rattle.size_core.proofs.Prelude.{◌≡◌, ◌∙◌, ℕ, length, sym, ap, arith, subst, ◌≤◌, Some, [], refl, ◌∷◌, Option, None, Bool, false, true, ◌-◌, get_or, inl, inr, if◌then◌else◌, set, drop, ◌==◌, max, min, cases_lt, ne_eqb, option_map, Queue, Taking, put, take_least, take_from, figures_of, flow_of, store_popped, Stores, leads, Use, popped, spread, highest, lowest_from, taken, Has, IsCrest}
 use Rattle.tree_defs.proofs.TakeLeast.{NoneBelow, NoneBelow-le, take_from-front, take_from-behind, take_from-least}
 use Rattle.size_core.specs.declared.node.Node.{Node}
 

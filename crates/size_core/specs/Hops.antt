@@ -1,12 +1,9 @@
 -- The use of nodes by index. The path of each class's packets is a list of nodes.
-use Rattle.std.specs.Prelude.{ℕ, ◌+◌, ◌<◌, ◌==◌, Vec, if◌then◌else◌, Option, None, Some, option_map, unwrap_or, List, [], ◌∷◌, length, slice_get, slice_index_or}
+use Rattle.std.specs.Prelude.{ℕ, ◌+◌, ◌<◌, ◌==◌, Vec, if◌then◌else◌, Option, option_map, unwrap_or, List, [], ◌∷◌, length, slice_get, slice_index_or}
 use Rattle.std.specs.declared.alloc.Global.{Global}
 use Rattle.std.specs.Option.{ForSome}
-use Rattle.packet_defs.specs.declared.packet.Packet.{Packet}
 use Rattle.sched_defs.specs.Events as run
 use Rattle.size_core.specs.declared.limits.Limits.{Limits}
-use Rattle.size_core.specs.declared.limits.Limit.{Limit}
-use Rattle.size_core.specs.declared.limits.Limit.TheVariants as limit
 use Rattle.size_core.specs.declared.limits.Passed.{Passed}
 use Rattle.size_core.specs.declared.hop.Hop.{Hop}
 use Rattle.size_core.specs.Use.{Use, pushed, popped}

@@ -4,7 +4,7 @@ use Rattle.sched_defs.specs.Events.{Outcome}
 use Rattle.size_core.specs.declared.limits.Limits.{Limits}
 use Rattle.size_core.specs.declared.sizing.Sizing.{Sizing}
 use Rattle.size_core.specs.Hops.{ClassHops, Watched, class_hops_in, watched, watched_all}
-use Rattle.size_core.specs.Watching.{class_hops_of, Watches, Stays, WatchesAll}
+use Rattle.size_core.specs.Watching.{class_hops_of, Watches, WatchesAll}
 
 watched-append : (limits : Limits) (class_hops : ClassHops) (event : ℕ) (os ps : List Outcome) (s : Watched)
     → watched_all limits class_hops event (os ++ ps) s ≡ watched_all limits class_hops (event + length os) ps (watched_all limits class_hops event os s)

@@ -1,5 +1,5 @@
 -- Limits of a node's queue.
-use Rattle.std.specs.Prelude.{◌≡◌, refl, ℕ, ◌^◌, nat_le, Bool, true, false, if◌then◌else◌, Option, None, Some}
+use Rattle.std.specs.Prelude.{ℕ, ◌^◌, nat_le, Bool, false, if◌then◌else◌, Option, None, Some}
 use Rattle.size_core.specs.declared.limits.Limits.{Limits}
 use Rattle.size_core.specs.declared.limits.Limit.{Limit}
 use Rattle.size_core.specs.declared.limits.Limit.TheVariants as limit

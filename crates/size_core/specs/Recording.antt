@@ -1,6 +1,6 @@
 -- A sizing as a recorder: outcomes change the uses of nodes, and nothing is written.
-use Rattle.std.specs.Prelude.{◌≡◌, refl, ℕ, ◌+◌, Option, List, [], ◌∷◌, ◌++◌, length}
-use Rattle.std.proofs.Common.{◌∙◌, ap, sym, subst}
+use Rattle.std.specs.Prelude.{◌≡◌, refl, ℕ, Option, List}
+use Rattle.std.proofs.Common.{◌∙◌}
 use Rattle.policy_defs.specs.Policy.{Policy}
 use Rattle.sched_defs.specs.Events.{Outcome}
 use Rattle.sched_run.specs.Recording.{AreJoined}

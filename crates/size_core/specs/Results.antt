@@ -11,7 +11,7 @@ use Rattle.size_core.specs.declared.node.Node.{Node}
 use Rattle.size_core.specs.declared.sizing.Sizing.{Sizing}
 use Rattle.size_core.specs.Use.{Use}
 use Rattle.size_core.specs.Hops.{Uses, Watched}
-use Rattle.size_core.specs.Watching.{Has, Watches}
+use Rattle.size_core.specs.Watching.{Has}
 use Rattle.size_core.specs.Paths.{Keys, address_in, IsOnce, IsPathTo}
 use Rattle.size_core.specs.Places.{addresses, places}
 use Rattle.size_core.specs.Sizes.{Crossing, Line, IsNameAt, unused_at, crossing_of, line_of}

@@ -1,6 +1,5 @@
 -- How large the queues of a target get in a run, address by address.
 use Rattle.std.specs.Prelude.{◌≡◌, ◌<◌, ℕ, ◌+◌, ◌*◌, Bool, true, false, if◌then◌else◌, nat_eq, nat_lt, filter, Option, None, Some, option_map, MatchOption, IfSome, List, [], ◌∷◌, ◌++◌, map, length, drop, slice_get, slice_index, slice_index_or}
-use Rattle.std.specs.List.{IsDistinct}
 use Rattle.std.specs.Option.{option_map_or}
 use Rattle.tree_defs.specs.Queue.{Entry}
 use Rattle.tree_defs.specs.Tree.{Address, IsAddressOf}

@@ -1,5 +1,5 @@
 -- The ranks in the rank stores of a node. A node has one flow for each child, a leaf has one.
-use Rattle.std.specs.Prelude.{◌≡◌, refl, ℕ, ◌+◌, ◌-◌, ◌==◌, nat_lt, max, Bool, true, false, if◌then◌else◌, Option, None, Some, List, [], ◌∷◌, ◌++◌, drop, length, replicate, slice_index_or, slice_set}
+use Rattle.std.specs.Prelude.{ℕ, ◌+◌, ◌-◌, ◌==◌, nat_lt, max, Bool, false, if◌then◌else◌, Option, None, Some, List, [], ◌∷◌, ◌++◌, drop, length, replicate, slice_index_or, slice_set}
 use Rattle.size_core.specs.declared.size.StoreUse.{StoreUse}
 
 -- the ranks stored in each flow, the number of spilled entries, and the use of both so far

@@ -1,6 +1,6 @@
 -- The use of a node's queue, push by push and pop by pop.
-use Rattle.std.specs.Prelude.{◌≡◌, refl, ℕ, ◌+◌, ◌-◌, max, min, Option, None, Some, option_map, List, [], ◌∷◌, length}
-use Rattle.tree_defs.specs.Queue.{Entry, Queue, Taking, put, take_least}
+use Rattle.std.specs.Prelude.{ℕ, ◌+◌, ◌-◌, max, min, Option, None, Some, option_map, [], ◌∷◌, length}
+use Rattle.tree_defs.specs.Queue.{Queue, Taking, put, take_least}
 use Rattle.size_core.specs.Stores.{Stores, store_pushed, store_popped}
 
 -- the greatest rank of a queue, or 0 if it has no entry

@@ -1,14 +1,10 @@
 -- What a sizing stands for.
-use Rattle.std.specs.Prelude.{◌≡◌, ◌≤◌, ◌<◌, ℕ, max, Option, option_map, unwrap_or, IfSome, Vec, List, [], ◌∷◌, length, slice_get}
-use Rattle.std.specs.declared.alloc.Global.{Global}
+use Rattle.std.specs.Prelude.{◌≡◌, ℕ, max, IfSome, List, [], ◌∷◌, length, slice_get}
 use Rattle.tree_defs.specs.Queue.{Queue}
 use Rattle.sched_defs.specs.Events.{Outcome}
-use Rattle.size_core.specs.declared.limits.Limits.{Limits}
-use Rattle.size_core.specs.declared.hop.Hop.{Hop}
 use Rattle.size_core.specs.declared.node.Node.{Node}
 use Rattle.size_core.specs.declared.queues.Queues.{Queues}
 use Rattle.size_core.specs.declared.sizing.Sizing.{Sizing}
-use Rattle.size_core.specs.Stores.{Stores}
 use Rattle.size_core.specs.Use.{Use, highest, spread}
 use Rattle.size_core.specs.Hops.{ClassHops, Uses, Watched, class_hops_in, watched_all}
 

@@ -1,4 +1,4 @@
-use Rattle.size_core.proofs.Prelude.{◌≡◌, ◌∙◌, ℕ, length, sym, ap, List, arith, subst, ◌+◌, ◌<◌, IfSome, Some, Option, get_or, ◌≢◌, set, length-set, slice_get, HasAt, IsServed}
+use Rattle.size_core.proofs.Prelude.{◌≡◌, ◌∙◌, ℕ, length, sym, ap, List, arith, subst, ◌+◌, IfSome, Some, Option, get_or, length-set, slice_get, HasAt, IsServed}
 use Rattle.size_core.proofs.Lists.{each_set}
 use Rattle.size_core.proofs.NameLaws.{served-own, served-other}
 use Rattle.size_core.proofs.names.names_of.Goals as goal

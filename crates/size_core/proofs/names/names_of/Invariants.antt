@@ -1,4 +1,4 @@
-use Rattle.size_core.proofs.Prelude.{◌≡◌, ℕ, length, ◌≤◌, IfSome, slice_get, IsServed}
+use Rattle.size_core.proofs.Prelude.{◌≡◌, ℕ, length, IfSome, slice_get, IsServed}
 use Rattle.size_core.proofs.names.names_of.Given as goal
 
 abbrev pub invariant-loop-number : goal.invariant-loop-number

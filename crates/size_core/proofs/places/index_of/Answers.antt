@@ -1,4 +1,4 @@
-use Rattle.size_core.proofs.Prelude.{◌≡◌, ◌∙◌, sym, ap, List, subst, Some, Address, address_in, Keys, addresses, add}
+use Rattle.size_core.proofs.Prelude.{◌≡◌, ◌∙◌, sym, ap, subst, Some, Address, address_in, Keys, addresses, add}
 use Rattle.size_core.proofs.PlaceLaws.{insert-adds, insert-grows}
 use Rattle.size_core.proofs.places.index_of.Goals as goal
 

@@ -1,4 +1,4 @@
-use Rattle.size_core.proofs.Prelude.{◌≡◌, ◌∙◌, ℕ, sym, ap, List, subst, map, slice_index, lifted-lift, image_map, Address, IsPath}
+use Rattle.size_core.proofs.Prelude.{◌≡◌, ◌∙◌, ℕ, ap, List, subst, map, slice_index, lifted-lift, image_map, Address, IsPath}
 use Rattle.embed_core.specs.LiftedPaths.{IsLiftedPathTo}
 use Rattle.size_core.proofs.places.path_to.Goals as goal
 

@@ -1,6 +1,6 @@
-use Rattle.size_core.proofs.Prelude.{◌≡◌, ◌∙◌, ℕ, length, sym, ap, List, arith, subst, ◌+◌, IfSome, [], ◌∷◌, ◌++◌, length-append, range_with_len, slice_get, Vec, image_map, lift_ranks, leaf_of, Address, LeadsToLeaf, IsPathTo, addresses, add_paths, add_path, Hop}
+use Rattle.size_core.proofs.Prelude.{◌≡◌, ◌∙◌, ℕ, length, sym, ap, List, subst, ◌+◌, IfSome, [], ◌∷◌, length-append, slice_get, Vec, image_map, leaf_of, Address, LeadsToLeaf, IsPathTo, addresses, add_paths, add_path, Hop}
 use Rattle.std.specs.declared.alloc.Global.{Global}
-use Rattle.sched_embedded.proofs.ClassLanes.{leaf-told, leaf-leads}
+use Rattle.sched_embedded.proofs.ClassPaths.{leaf-told, leaf-leads}
 use Rattle.size_core.proofs.PlaceLaws.{paths-more}
 use Rattle.size_core.proofs.Lists.{each_push, each_weaker, path-grows}
 use Rattle.size_core.proofs.places.paths_of.Goals as goal

@@ -1,4 +1,4 @@
-use Rattle.size_core.proofs.Prelude.{◌≡◌, ◌∙◌, ℕ, length, sym, ap, List, arith, subst, ◌+◌, IfSome, Some, [], ◌∷◌, ◌++◌, length-append, Address, address_in, AreUnused, unused_at, stores_at, unused, Has}
+use Rattle.size_core.proofs.Prelude.{◌≡◌, ◌∙◌, ℕ, length, sym, ap, List, subst, ◌+◌, IfSome, Some, [], ◌∷◌, length-append, Address, address_in, AreUnused, stores_at, unused, Has}
 use Rattle.size_core.specs.declared.node.Node.{Node}
 use Rattle.size_core.proofs.Lists.{unused-push}
 use Rattle.size_core.proofs.queues.empty_nodes.Goals as goal

@@ -1,4 +1,4 @@
-use Rattle.size_core.proofs.Prelude.{◌≡◌, ◌∙◌, ℕ, sym, ap, arith, ◌<◌, ◌≤◌, Some, false, nat_lt, ◌^◌, nat_le, rules, lt-leb, nat_tests, is_wide}
+use Rattle.size_core.proofs.Prelude.{◌≡◌, ◌∙◌, sym, ap, arith, ◌<◌, ◌≤◌, false, nat_lt, ◌^◌, lt-leb, nat_tests, is_wide}
 use Rattle.std.proofs.Math.Nat.{pow-le-pow_right}
 use Rattle.size_core.proofs.queues.is_wide.Goals as goal
 

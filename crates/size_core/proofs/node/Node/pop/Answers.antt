@@ -1,4 +1,4 @@
-use Rattle.size_core.proofs.Prelude.{◌≡◌, ◌∙◌, ℕ, sym, ap, arith, subst, Some, refl, Option, None, ◌-◌, max, option_map, Queue, Taking, take_least, store_popped, spread}
+use Rattle.size_core.proofs.Prelude.{◌≡◌, ◌∙◌, ℕ, sym, ap, Some, refl, ◌-◌, max, option_map, Taking, take_least, store_popped, spread}
 use Rattle.size_core.proofs.UseLaws.{Popped, after_pop, has_taken}
 use Rattle.size_core.proofs.node.Node.pop.Goals as goal
 

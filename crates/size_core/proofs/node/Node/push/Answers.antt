@@ -1,5 +1,5 @@
-use Rattle.size_core.proofs.Prelude.{◌≡◌, ◌∙◌, ℕ, length, sym, ap, subst, ◌+◌, if◌then◌else◌, ◌==◌, max, option_map, Queue, put, store_pushed, spread, IsCrest}
-use Rattle.size_core.proofs.UseLaws.{spread-put, crest-put, span-pushed}
+use Rattle.size_core.proofs.Prelude.{◌≡◌, ◌∙◌, ℕ, length, sym, ap, subst, ◌+◌, if◌then◌else◌, ◌==◌, max, option_map, Queue, put, store_pushed, IsCrest}
+use Rattle.size_core.proofs.UseLaws.{crest-put, span-pushed}
 use Rattle.size_core.proofs.node.Node.push.Goals as goal
 
 pub returns : goal.returns

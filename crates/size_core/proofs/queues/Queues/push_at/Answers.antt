@@ -1,4 +1,4 @@
-use Rattle.size_core.proofs.Prelude.{◌≡◌, ◌∙◌, ℕ, length, sym, ap, List, subst, refl, Option, passed_at, rank_on, value_on, first_of, Use, pushed, Has, Passed}
+use Rattle.size_core.proofs.Prelude.{◌≡◌, ◌∙◌, ℕ, length, ap, subst, refl, Option, passed_at, rank_on, value_on, first_of, pushed, Has, Passed}
 use Rattle.size_core.proofs.QueueLaws.{after_push}
 use Rattle.size_core.proofs.queues.Queues.push_at.Goals as goal
 

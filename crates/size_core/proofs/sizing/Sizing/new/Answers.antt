@@ -1,4 +1,4 @@
-use Rattle.size_core.proofs.Prelude.{◌≡◌, ◌∙◌, ℕ, length, sym, ap, List, arith, subst, ◌<◌, IfSome, Some, [], refl, Option, slice_get, Vec, unwrap_or, image_map, address_at, Laid, leaf_of, Address, IsServed, address_in, IsOnce, IsPathTo, add_paths, name_in, IsNameAt, Hop}
+use Rattle.size_core.proofs.Prelude.{◌≡◌, ◌∙◌, ℕ, length, ap, List, arith, subst, ◌<◌, IfSome, Some, [], refl, slice_get, Vec, image_map, address_at, Laid, leaf_of, Address, IsServed, address_in, IsOnce, IsPathTo, add_paths, name_in, Hop}
 use Rattle.std.specs.declared.alloc.Global.{Global}
 use Rattle.size_core.proofs.Lists.{some_at, path-inside, in_range, each_weaker}
 use Rattle.size_core.proofs.NameLaws.{once, name-is, name-at}

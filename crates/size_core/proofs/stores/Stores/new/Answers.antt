@@ -1,4 +1,4 @@
-use Rattle.size_core.proofs.Prelude.{◌∙◌, ℕ, sym, ap, List, arith, [], heads_in}
+use Rattle.size_core.proofs.Prelude.{◌∙◌, ℕ, sym, ap, List, arith, heads_in}
 use Rattle.size_core.proofs.StoreLaws.{heads-none}
 use Rattle.size_core.proofs.stores.Stores.new.Goals as goal
 

@@ -1,4 +1,4 @@
-use Rattle.size_core.proofs.Prelude.{◌≡◌, ◌∙◌, ℕ, length, sym, ap, arith, ◌<◌, map, true, ◌-◌, get_or, drop, deque_items, length-set, rules, get_or-set_same, flow_of, store_popped, head_in, leads}
+use Rattle.size_core.proofs.Prelude.{◌≡◌, ◌∙◌, ℕ, length, sym, ap, arith, ◌<◌, true, ◌-◌, deque_items, length-set, get_or-set_same, flow_of, store_popped, head_in, leads}
 use Rattle.size_core.proofs.StoreLaws.{same_read, heads-after_pop, after_pop}
 use Rattle.size_core.proofs.stores.Stores.pop.Goals as goal
 

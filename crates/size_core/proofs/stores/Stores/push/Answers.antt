@@ -1,6 +1,6 @@
-use Rattle.size_core.proofs.Prelude.{◌≡◌, ◌∙◌, ℕ, length, sym, ap, List, arith, ◌+◌, ◌<◌, map, false, true, ◌-◌, nat_lt, set, max, deque_items, length-set, rules, nat_tests, flow_of, Stores, head_in, store_pushed, last_rank, StoreUse}
+use Rattle.size_core.proofs.Prelude.{◌≡◌, ◌∙◌, ℕ, length, sym, ap, List, arith, ◌+◌, ◌<◌, map, false, ◌-◌, nat_lt, set, max, deque_items, length-set, rules, flow_of, Stores, head_in, store_pushed, last_rank}
 use Rattle.std.proofs.Math.Seq.{map-set_same}
-use Rattle.size_core.proofs.StoreLaws.{same_read, heads-below, heads-after_push, after_push, after_spill}
+use Rattle.size_core.proofs.StoreLaws.{same_read, heads-below, heads-after_push, after_push}
 use Rattle.size_core.proofs.stores.Stores.push.Goals as goal
 
 pub invariant_of-self : goal.invariant_of-self
