@@ -3,7 +3,6 @@ use Rattle.std.specs.Prelude.{◌≡◌, ℕ, Option, None, Some, List, [], ◌+
 use Rattle.std.specs.declared.alloc.Global.{Global}
 use Rattle.outside_core.specs.Faults.{Rose}
 use Rattle.outside_core.specs.Report.{fault_line}
-use Rattle.outside_core.specs.declared.stop.Stop.{Stop}
 use Rattle.outside_core.specs.declared.stop.Stop.TheVariants.{Source, Sink, Memory}
 use Rattle.report_core.specs.Faults.{word_of}
 use Rattle.report_core.specs.declared.fault.FaultKind.{FaultKind}

@@ -1,5 +1,4 @@
 use Rattle.replay_app.proofs.Prelude.{[], ◌∷◌}
-use Rattle.report_core.specs.declared.fault.FaultKind.TheVariants as kind
 use Rattle.replay_app.specs.Jobs.{IsJobOutput, goes_direct}
 use Rattle.replay_app.proofs.AnswerLaws.{told-later}
 use Rattle.replay_app.proofs.DecidedLaws.{passed, decided_so, same_trans}
