@@ -15,8 +15,8 @@ returns-in-Ok-clause-answer g c =
     let is = rw c.in-Ok.is at read in
     accepted_told kind.Policy _ _ _ (upgrades_are_one es) c.write_upgraded.result _ _ (policy_file_of c.in-Ok.again) is (c.write_upgraded.ensures.answer sound)
 
-pub returns-in-Err-clause-answer : goal.returns-in-Err-clause-answer
-returns-in-Err-clause-answer g c =
+pub returns-clause-answer : goal.returns-clause-answer
+returns-clause-answer g c =
     let es = entries_in c.args.lines.now in
     let r = c.in-Err.refusal in
     let same : c.deref.result.now ≡ c.in_ok-text.text.items = search rules in
