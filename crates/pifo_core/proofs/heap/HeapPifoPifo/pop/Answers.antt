@@ -32,7 +32,7 @@ returns-then-run_leads-clause-taken c =
     let first = c.in_ok-first.field-0.now in
     let rest = drop (i.head + 1) i.run.items in
     let leading : leads (drop i.head i.run.items) (heap_items i.heap) ≡ true =
-        ap (λ (l : List Brief). leads l (heap_items i.heap)) (sym (from_on i.run.items i.head)) ∙ (rw c.deref.ensures.value at (sym c.if-run_leads.ensures.leads)) in
+    ap (λ (l : List Brief). leads l (heap_items i.heap)) (sym (from_on i.run.items i.head)) ∙ (rw c.deref.ensures.value at (sym c.if-run_leads.ensures.leads)) in
     let top : TopIsFirst (heap_items i.heap) = c.run_leads.ensures.top c.self.invariant.0.in_heap in
     ap (λ v. take_least v.entries) (sym c.self.view_is)
     ∙ ap (λ l. take_least (queue_of (held_of_both l (heap_items i.heap)))) (led c)
@@ -45,7 +45,7 @@ returns-in_err-top-clause-taken c =
     let queued = drop i.head i.run.items in
     let whole : heap_len i.heap ≡ length (heap_items i.heap) = search rules in
     let behind : leads queued (heap_items i.heap) ≡ false =
-        ap (λ (l : List Brief). leads l (heap_items i.heap)) (sym (from_on i.run.items i.head)) ∙ (rw c.deref.ensures.value at (sym c.if-run_leads.ensures.leads)) in
+    ap (λ (l : List Brief). leads l (heap_items i.heap)) (sym (from_on i.run.items i.head)) ∙ (rw c.deref.ensures.value at (sym c.if-run_leads.ensures.leads)) in
     let none : length (heap_items i.heap) ≡ 0 = search (rules, arith, whole, c.in_err-top.ensures) in
     let empty : queue_of (held_of_both queued (heap_items i.heap)) ≡ [] = queue_of-neither queued (heap_items i.heap) behind none in
     rw c.from_residual-in_err-top.ensures (ap (λ v. v.entries) (sym c.self.view_is) ∙ empty, ap (λ v. v.entries) (sym c.self.view_is) ∙ empty)
@@ -68,7 +68,7 @@ returns-clause-taken c =
     let whole : heap_len i.heap ≡ length items = search rules in
     let some : 0 < length items = omega (arith, whole, c.drop_top.ensures.len) in
     let behind : leads queued items ≡ false =
-        ap (λ (l : List Brief). leads l items) (sym (from_on i.run.items i.head)) ∙ (rw c.deref.ensures.value at (sym c.if-run_leads.ensures.leads)) in
+    ap (λ (l : List Brief). leads l items) (sym (from_on i.run.items i.head)) ∙ (rw c.deref.ensures.value at (sym c.if-run_leads.ensures.leads)) in
     let is = top-is items _ some c.in_ok-top.ensures.lookup in
     ap (λ v. take_least v.entries) (sym c.self.view_is)
     ∙ queue_of-popped (top_of items) queued items (heap_items c.drop_top.new.heap) i.pushed c.self.invariant.0 c.drop_top.ensures.permutation behind some (first-is items some) (c.drop_top.ensures.below_top c.self.invariant.0.in_heap)
