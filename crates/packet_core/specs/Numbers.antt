@@ -42,4 +42,4 @@ holds numbers bounds = nat_le bounds.low (slice_index numbers bounds.place) && n
 
 -- all bounds of a class hold
 abbrev pub is_met : List ℕ → Prepared → Bool
-is_met numbers class = holds numbers class.first && list_all (holds numbers) class.others.items
+is_met numbers class = holds numbers class.first && (holds numbers class.second && list_all (holds numbers) class.others.items)

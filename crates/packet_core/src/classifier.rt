@@ -1,5 +1,6 @@
 //! The classes of a policy, prepared for classifying many packets.
 ghost use Rattle.std.specs.Prelude.{◌≡◌, ◌≤◌, length, true, false};
+ghost use Rattle.std.specs.List.{list_all, position_or_len};
 ghost use Rattle.packet_core.specs.Tests.{classes_of};
 ghost use Rattle.packet_core.specs.Numbers.{holds, is_met, numbers_of};
 ghost use Rattle.packet_core.specs.Rules.{one_asks};
@@ -19,6 +20,9 @@ use std::alloc::{AllocError, Global};
 
 /// How many numbers of a packet are bounded, each at its own index.
 const COUNT: usize = 9;
+
+/// How many classes are looked at together.
+const GROUP: usize = 8;
 
 /// The value of an absent number, above every value that a condition allows.
 const ABSENT: u64 = u64::MAX;
@@ -53,7 +57,34 @@ fn holds(bounds: &Bounds, numbers: &[u64; COUNT]) -> bool
     ensures { result ≡ holds numbers.now bounds.now }
 {
     let number = numbers[bounds.place];
-    bounds.low <= number && number <= bounds.high
+    // Without `&&` there is no branch that depends on the packet.
+    (bounds.low <= number) & (number <= bounds.high)
+}
+
+/// Returns whether all of these bounds hold. It is a call of its own because few classes have more
+/// than two tests.
+#[inline(never)]
+fn all_hold(others: &[Bounds], numbers: &[u64; COUNT]) -> bool
+    ensures { result ≡ list_all (holds numbers.now) others.now }
+{
+    others.iter().all(|bounds| holds(bounds, numbers))
+}
+
+/// Returns the index of the first of these classes that is met, or their count if none is. Looks at
+/// all of them, from the last to the first, so that no branch depends on the packet.
+#[inline(always)]
+fn first_met(classes: &[Prepared], numbers: &[u64; COUNT]) -> usize
+    ensures { result ≡ position_or_len (is_met numbers.now) classes.now }
+{
+    let mut found = classes.len();
+    for place in (0..classes.len()).rev() {
+        let class = &classes[place];
+        let both = holds(&class.first, numbers) & holds(&class.second, numbers);
+        if both & (class.others.is_empty() || all_hold(&class.others, numbers)) {
+            found = place;
+        }
+    }
+    found
 }
 
 /// The classes of a policy, prepared for classifying many packets.
@@ -118,18 +149,16 @@ impl<'a> Classifier<'a> {
         ensures there { result < length (policy_of self.now).policy.classes }
     {
         let numbers = &numbers_of(fields, len);
-        let met = self.classes.iter().position(
-            |class: &Prepared| -> bool
-                ensures { result ≡ is_met numbers.entry.now class.now }
-            {
-                holds(&class.first, numbers)
-                    && class.others.iter().all(|bounds| holds(bounds, numbers))
-            },
-        );
-        match met {
-            Some(place) => place as u32,
-            None => unreachable!(),
+        let mut from = 0;
+        while from < self.classes.len() {
+            let end = self.classes.len().min(from + GROUP);
+            let found = from + first_met(&self.classes[from..end], numbers);
+            if found < end {
+                return found as u32;
+            }
+            from = end;
         }
+        unreachable!()
     }
 
     /// Returns the first class to which a packet of this original length belongs, if the classes

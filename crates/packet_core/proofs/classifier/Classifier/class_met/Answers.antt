@@ -1,37 +1,57 @@
-use Rattle.packet_core.proofs.Prelude.{◌∙◌, ◌≡◌, sym, arith, length, ◌<◌, Some, position, ExtraFields, Header, class_among, classes_of, numbers_of, is_met, no_extra}
-use Rattle.std.proofs.Common.{rules, tests}
-use Rattle.std.proofs.lemmas.Iterator.{YieldsList-from_slice}
-use Rattle.std.proofs.lemmas.Iterator.Search.{position_from_yields_List}
+use Rattle.packet_core.proofs.Prelude.{◌∙◌, ◌≡◌, sym, arith, subst, length, List, ℕ, ◌<◌, ◌+◌, None, Some, position, ExtraFields, Header, class_among, classes_of, is_met, no_extra}
 use Rattle.packet_core.proofs.FirstClass.{class-below}
+use Rattle.packet_core.proofs.Groups.{IsGroup, found-in-group, group-passed, found-nowhere, first-fits}
 use Rattle.packet_core.proofs.classifier.Classifier.class_met.Goals as goal
 
-found : (c : goal.In-Some) (extra : ExtraFields) → class_among (classes_of c.args.self.now.policy.now.conditions) (record { fields = c.args.fields.now; extra = extra }) c.args.len ≡ Some c.in-Some.place
+pub loop-from-init : goal.loop-from-init
+loop-from-init c = record { within = omega arith; passed = omega arith }
+
+group : (c : goal.After-first_met) → IsGroup (is_met c.numbers_of.result) c.args.self.now.classes.items c.deref.result.now c.loop-from.from c.min-end.result c.first_met.result
+group c = record {
+  order = omega (arith, c.min-end.ensures, c.len-in-loop-from.ensures, c.loop-from.invariant.within);
+  inside = omega (arith, c.min-end.ensures, c.len-in-loop-from.ensures);
+  passed = c.loop-from.invariant.passed;
+  same = c.deref.ensures.value;
+  found = c.first_met.ensures;
+}
+
+pub overflow_add-found : goal.overflow_add-found
+overflow_add-found c = omega (arith, first-fits _ _ _ _ _ _ (group c), c.min-end.type_inv)
+
+found : (c : goal.Then-found-end) (extra : ExtraFields) → class_among (classes_of c.args.self.now.policy.now.conditions) (record { fields = c.args.fields.now; extra = extra }) c.args.len ≡ Some (c.loop-from.from + c.first_met.result)
 found c extra =
     let s = c.args.self.now in
-    let first : c.position-met.result ≡ position (is_met c.numbers_of.result) c.deref.result.now =
-    position_from_yields_List (is_met c.numbers_of.result) _ _ _ c.position-met.ensures.ran (YieldsList-from_slice c.deref.result.now cc) (λ x b q k. search (rules, tests)) in
-    let met : c.position-met.result ≡ position (is_met (numbers_of c.args.fields.now c.args.len)) s.classes.items = rw (c.deref.ensures.value, c.numbers_of.ensures) at first in
-    sym (s.same c.requires (record { fields = c.args.fields.now; extra = extra }) c.args.len) ∙ sym met ∙ c.in-Some.is
+    sym (s.same c.requires (record { fields = c.args.fields.now; extra = extra }) c.args.len)
+    ∙ subst (λ (numbers : List ℕ). position (is_met numbers) s.classes.items ≡ Some (c.loop-from.from + c.first_met.result)) c.numbers_of.ensures (found-in-group _ _ _ _ _ _ (group c.before) c.if-found-end.true)
 
-below : (c : goal.In-Some) → c.in-Some.place < length c.args.self.now.policy.now.policy.classes
+below : (c : goal.Then-found-end) → c.loop-from.from + c.first_met.result < length c.args.self.now.policy.now.policy.classes
 below c =
     let s = c.args.self.now in
-    omega (arith, class-below s.policy.now.conditions (record { fields = c.args.fields.now; extra = no_extra }) c.args.len c.in-Some.place (found c no_extra), s.count)
+    omega (arith, class-below s.policy.now.conditions (record { fields = c.args.fields.now; extra = no_extra }) c.args.len (c.loop-from.from + c.first_met.result) (found c no_extra), s.count)
 
 pub overflow_cast-result : goal.overflow_cast-result
 overflow_cast-result c = omega (arith, below c, c.args.self.now.few)
+
+pub returns-then-found-end-clause-class : goal.returns-then-found-end-clause-class
+returns-then-found-end-clause-class c = λ extra. found c extra
+
+pub returns-then-found-end-clause-there : goal.returns-then-found-end-clause-there
+returns-then-found-end-clause-there c = below c
+
+pub loop-from-smaller : goal.loop-from-smaller
+loop-from-smaller c = omega (arith, c.min-end.ensures, c.len-in-loop-from.ensures, c.len.ensures, c.loop-from-test.true)
+
+pub loop-from-preserved : goal.loop-from-preserved
+loop-from-preserved c = record {
+  within = (group c.before).inside;
+  passed = group-passed _ _ _ _ _ _ (group c.before) c.if-found-end.false;
+}
 
 pub unreachable-requires : goal.unreachable-requires
 unreachable-requires c =
     let s = c.args.self.now in
     let header : Header = record { fields = c.args.fields.now; extra = no_extra } in
-    let first : c.position-met.result ≡ position (is_met c.numbers_of.result) c.deref.result.now =
-    position_from_yields_List (is_met c.numbers_of.result) _ _ _ c.position-met.ensures.ran (YieldsList-from_slice c.deref.result.now cc) (λ x b q k. search (rules, tests)) in
-    let met : c.position-met.result ≡ position (is_met (numbers_of c.args.fields.now c.args.len)) s.classes.items = rw (c.deref.ensures.value, c.numbers_of.ensures) at first in
-    s.given header c.args.len (sym (s.same c.requires header c.args.len) ∙ sym met ∙ c.in-None.is)
-
-pub returns-clause-class : goal.returns-clause-class
-returns-clause-class c = λ extra. found c extra
-
-pub returns-clause-there : goal.returns-clause-there
-returns-clause-there c = below c
+    s.given header c.args.len
+    (sym (s.same c.requires header c.args.len)
+    ∙ subst (λ (numbers : List ℕ). position (is_met numbers) s.classes.items ≡ None) c.numbers_of.ensures
+    (found-nowhere (is_met c.numbers_of.result) s.classes.items c.loop-from.from (omega (arith, c.len.ensures, c.loop-from-test.false)) c.loop-from.invariant.passed))
