@@ -1,67 +1,64 @@
--- The first class that is met, searched in one group of classes after the other.
-use Rattle.packet_core.proofs.Prelude.{◌∙◌, ◌≡◌, sym, ap, arith, refl, length, List, ℕ, Bool, Some, None, take, drop, ◌+◌, ◌-◌, ◌<◌, ◌≤◌, position, position_or_len}
+-- The first class that is met, searched in one group of classes after the other by the first two bounds of each.
+use Rattle.packet_core.proofs.Prelude.{◌∙◌, ◌≡◌, sym, ap, subst, arith, refl, length, List, [], ℕ, Bool, Some, true, false, inl, inr, take, drop, get_or, ◌&&◌, ◌+◌, ◌-◌, ◌<◌, ◌≤◌, list_all, position, position_or_len, holds, both_hold, is_met}
 use Rattle.std.specs.Prelude.{not}
-use Rattle.std.proofs.lemmas.Bool.{lt-ltb, le-ltb, eq-eqb, ne_eqb}
-use Rattle.std.proofs.lemmas.List.{take-append-drop, length-take-le, length-drop, drop-drop}
-use Rattle.std.proofs.lemmas.List.Folds.{prefix_len-append}
-use Rattle.std.proofs.lemmas.List.Sums.{prefix_len-le-length}
+use Rattle.std.proofs.lemmas.Bool.{cases_lt, lt-ltb, and_left}
+use Rattle.std.proofs.lemmas.List.{get_or-take, get_or-drop, length-take-le, length-drop}
+use Rattle.std.proofs.lemmas.List.Sums.{prefix_len-le-length, position_or_len_is, fails_before_first, passes_at_first}
+use Rattle.packet_core.specs.declared.bounds.Prepared.{Prepared}
 
--- the first in a list is the first in its first k elements, or else the first after them
-first-in : {X : Type 0} (p : X → Bool) (xs : List X) (k : ℕ) → k ≤ length xs → position_or_len p (take k xs) < k → position_or_len p xs ≡ position_or_len p (take k xs)
-first-in p xs k inside found =
-    ap (position_or_len p) (sym (take-append-drop k xs))
-    ∙ prefix_len-append (λ x. not (p x)) (take k xs) (drop k xs)
-    ∙ rw (length-take-le k xs inside, ne_eqb (position_or_len p (take k xs)) k (λ e. omega (arith, e, found))) refl
-
-first-after : {X : Type 0} (p : X → Bool) (xs : List X) (k : ℕ) → k ≤ length xs → k ≤ position_or_len p (take k xs) → position_or_len p xs ≡ k + position_or_len p (drop k xs)
-first-after p xs k inside none =
-    let most : position_or_len p (take k xs) ≤ length (take k xs) = prefix_len-le-length (λ x. not (p x)) (take k xs) in
-    let len = length-take-le k xs inside in
-    ap (position_or_len p) (sym (take-append-drop k xs))
-    ∙ prefix_len-append (λ x. not (p x)) (take k xs) (drop k xs)
-    ∙ rw (len, eq-eqb (position_or_len p (take k xs)) k (omega (arith, none, most, len))) refl
-
-is-found : {X : Type 0} (p : X → Bool) (xs : List X) (place : ℕ) → position_or_len p xs ≡ place → place < length xs → position p xs ≡ Some place
-is-found p xs place is inside = rw (is, lt-ltb place (length xs) inside) refl
-
--- no group holds one
-pub found-nowhere : {X : Type 0} (p : X → Bool) (xs : List X) (from : ℕ) → length xs ≤ from → position_or_len p xs ≡ from + position_or_len p (drop from xs) → position p xs ≡ None
-found-nowhere p xs from past passed = rw (le-ltb (position_or_len p xs) (length xs) (omega (arith, past, passed))) refl
-
--- what is known of the group from `from` to `end` in the list `ys`, whose first is at `first`, if no earlier group holds one
-pub record IsGroup {X : Type 0} (p : X → Bool) (xs ys : List X) (from end first : ℕ) : Type 0 where
+-- the group from `from` to `end` in the list `group`, in which `first` is the first whose first two bounds hold; no class before it is met
+pub record IsGroup (numbers : List ℕ) (classes group : List Prepared) (from end first : ℕ) : Type 0 where
   pub order : from ≤ end
-  pub inside : end ≤ length xs
-  pub passed : position_or_len p xs ≡ from + position_or_len p (drop from xs)
-  pub same : ys ≡ xs
-  pub found : first ≡ position_or_len p (take (end - from) (drop from ys))
+  pub inside : end ≤ length classes
+  pub passed : (k : ℕ) (d : Prepared) → k < from → is_met numbers (get_or classes k d) ≡ false
+  pub same : group ≡ classes
+  pub found : first ≡ position_or_len (both_hold numbers) (take (end - from) (drop from group))
 
-first-of : {X : Type 0} (p : X → Bool) (xs ys : List X) (from end first : ℕ) → IsGroup p xs ys from end first → first ≡ position_or_len p (take (end - from) (drop from xs))
-first-of p xs ys from end first group = group.found ∙ ap (λ zs. position_or_len p (take (end - from) (drop from zs))) group.same
+first-of : (numbers : List ℕ) (classes group : List Prepared) (from end first : ℕ) → IsGroup numbers classes group from end first
+    → first ≡ position_or_len (both_hold numbers) (take (end - from) (drop from classes))
+first-of numbers classes group from end first g = g.found ∙ ap (λ cs. position_or_len (both_hold numbers) (take (end - from) (drop from cs))) g.same
 
-first-most : {X : Type 0} (p : X → Bool) (xs ys : List X) (from end first : ℕ) → IsGroup p xs ys from end first → first ≤ end - from
-first-most p xs ys from end first group =
-    let most = prefix_len-le-length (λ x. not (p x)) (take (end - from) (drop from xs)) in
-    omega (arith, first-of p xs ys from end first group, most, length-take-le (end - from) (drop from xs) (omega (arith, group.inside, group.order, length-drop from xs)))
+length-of : (numbers : List ℕ) (classes group : List Prepared) (from end first : ℕ) → IsGroup numbers classes group from end first → length (take (end - from) (drop from classes)) ≡ end - from
+length-of numbers classes group from end first g = length-take-le (end - from) (drop from classes) (omega (arith, g.inside, g.order, length-drop from classes))
 
--- the group holds the first
-pub found-in-group : {X : Type 0} (p : X → Bool) (xs ys : List X) (from end first : ℕ) → IsGroup p xs ys from end first → from + first < end → position p xs ≡ Some (from + first)
-found-in-group p xs ys from end first group found =
-    let is = first-of p xs ys from end first group in
-    is-found p xs (from + first)
-    (group.passed ∙ ap (λ k. from + k) (first-in p (drop from xs) (end - from) (omega (arith, group.inside, group.order, length-drop from xs)) (omega (arith, is, found, group.order)) ∙ sym is))
-    (omega (arith, found, group.inside))
+-- a class of the group by its place in all classes
+at : (classes : List Prepared) (from end k : ℕ) (d : Prepared) → from ≤ k → k < end → get_or (take (end - from) (drop from classes)) (k - from) d ≡ get_or classes k d
+at classes from end k d after before =
+    get_or-take (end - from) (drop from classes) (k - from) d (omega (arith, after, before))
+    ∙ get_or-drop from classes (k - from) d
+    ∙ ap (λ i. get_or classes i d) (omega (arith, after))
 
--- the group holds none
-pub group-passed : {X : Type 0} (p : X → Bool) (xs ys : List X) (from end first : ℕ) → IsGroup p xs ys from end first → end ≤ from + first
-    → position_or_len p xs ≡ end + position_or_len p (drop end xs)
-group-passed p xs ys from end first group none =
-    let is = first-of p xs ys from end first group in
-    let rest : drop (end - from) (drop from xs) ≡ drop end xs = drop-drop (end - from) from xs ∙ ap (λ k. drop k xs) (omega (arith, group.order)) in
-    let later : position_or_len p (drop from xs) ≡ (end - from) + position_or_len p (drop end xs) =
-    first-after p (drop from xs) (end - from) (omega (arith, group.inside, group.order, length-drop from xs)) (omega (arith, is, none, group.order)) ∙ ap (λ ys. (end - from) + position_or_len p ys) rest in
-    omega (arith, group.passed, later, group.order)
+-- the place of the first is in the group or at its end
+pub first-fits : (numbers : List ℕ) (classes group : List Prepared) (from end first : ℕ) → IsGroup numbers classes group from end first → from + first ≤ end
+first-fits numbers classes group from end first g =
+    let p : Prepared → Bool = both_hold numbers in
+    let most = prefix_len-le-length (λ x. not (p x)) (take (end - from) (drop from classes)) in
+    omega (arith, first-of numbers classes group from end first g, most, length-of numbers classes group from end first g, g.order)
 
--- the first of a group is in it, or its end
-pub first-fits : {X : Type 0} (p : X → Bool) (xs ys : List X) (from end first : ℕ) → IsGroup p xs ys from end first → from + first ≤ end
-first-fits p xs ys from end first group = omega (arith, first-most p xs ys from end first group, group.order)
+-- no class before the first is met
+pub none-before : (numbers : List ℕ) (classes group : List Prepared) (from end first : ℕ) → IsGroup numbers classes group from end first
+    → (k : ℕ) (d : Prepared) → k < from + first → is_met numbers (get_or classes k d) ≡ false
+none-before numbers classes group from end first g k d before = elim (cases_lt k from) [
+  | inl earlier ↦ g.passed k d earlier
+  | inr later ↦
+      let most = first-fits numbers classes group from end first g in
+      let fails = fails_before_first (both_hold numbers) (take (end - from) (drop from classes)) (k - from) d (omega (arith, later, before, first-of numbers classes group from end first g)) in
+      and_left _ _ (ap (both_hold numbers) (sym (at classes from end k d later (omega (arith, before, most)))) ∙ fails)
+]
+
+-- the first is met if it has no other bounds
+pub found-in-group : (numbers : List ℕ) (classes group : List Prepared) (from end first : ℕ) (class : Prepared) → IsGroup numbers classes group from end first
+    → from + first < end → class ≡ get_or classes (from + first) class → class.others.items ≡ [] → position (is_met numbers) classes ≡ Some (from + first)
+found-in-group numbers classes group from end first class g before is none =
+    let first-is = first-of numbers classes group from end first g in
+    let there : first < end - from = omega (arith, before, g.order) in
+    let held : both_hold numbers (get_or (take (end - from) (drop from classes)) first class) ≡ true =
+    subst (λ k. both_hold numbers (get_or (take (end - from) (drop from classes)) k class) ≡ true) (sym first-is)
+    (passes_at_first (both_hold numbers) (take (end - from) (drop from classes)) class (omega (arith, there, first-is, length-of numbers classes group from end first g))) in
+    let both : both_hold numbers class ≡ true =
+    ap (both_hold numbers) (is ∙ sym (get_or-take (end - from) (drop from classes) first class there ∙ get_or-drop from classes first class)) ∙ held in
+    let met : is_met numbers class ≡ true = ap (λ (b : Bool). b && list_all (holds numbers) class.others.items) both ∙ ap (list_all (holds numbers)) none in
+    let place : position_or_len (is_met numbers) classes ≡ from + first =
+    position_or_len_is (is_met numbers) classes (from + first) class (omega (arith, before, g.inside))
+    (λ k earlier. none-before numbers classes group from end first g k class earlier) (λ _. ap (is_met numbers) (sym is) ∙ met) in
+    rw (place, lt-ltb (from + first) (length classes) (omega (arith, before, g.inside))) refl

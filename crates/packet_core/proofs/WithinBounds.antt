@@ -136,10 +136,15 @@ in-parts g ys k = sym (list_all-append g (take k ys) (drop k ys)) ∙ ap (list_a
 
 pub met-in-parts : {X Y : Type 0} (f : X → Bool) (g : Y → Bool) (first second : Bool) (xs : List X) (ys : List Y) (k m : ℕ)
     → first ≡ list_all g (take k ys) → second ≡ list_all g (take m (drop k ys)) → list_all f xs ≡ list_all g (drop m (drop k ys))
-    → (first && (second && list_all f xs)) ≡ list_all g ys
+    → ((first && second) && list_all f xs) ≡ list_all g ys
 met-in-parts f g first second xs ys k m one other rest =
-    ap (λ b. b && (second && list_all f xs)) one
+    and-and first second (list_all f xs)
+    ∙ ap (λ b. b && (second && list_all f xs)) one
     ∙ ap (λ b. list_all g (take k ys) && (b && list_all f xs)) other
     ∙ ap (λ b. list_all g (take k ys) && (list_all g (take m (drop k ys)) && b)) rest
     ∙ ap (λ b. list_all g (take k ys) && b) (in-parts g (drop k ys) m)
     ∙ in-parts g ys k
+  where
+    and-and : (a b c : Bool) → ((a && b) && c) ≡ (a && (b && c))
+    and-and true b c = refl
+    and-and false b c = refl

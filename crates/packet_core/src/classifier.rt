@@ -1,8 +1,8 @@
 //! The classes of a policy, prepared for classifying many packets.
-ghost use Rattle.std.specs.Prelude.{◌≡◌, ◌≤◌, length, true, false};
+ghost use Rattle.std.specs.Prelude.{◌≡◌, ◌≤◌, length, position, true, false};
 ghost use Rattle.std.specs.List.{list_all, position_or_len};
 ghost use Rattle.packet_core.specs.Tests.{classes_of};
-ghost use Rattle.packet_core.specs.Numbers.{holds, is_met, numbers_of};
+ghost use Rattle.packet_core.specs.Numbers.{both_hold, holds, is_met, numbers_of};
 ghost use Rattle.packet_core.specs.Rules.{one_asks};
 ghost use Rattle.packet_core.specs.Classes.{AreSame, AreTested, GivesEach};
 
@@ -21,7 +21,7 @@ use std::alloc::{AllocError, Global};
 /// How many numbers of a packet are bounded, each at its own index.
 const COUNT: usize = 9;
 
-/// How many classes are looked at together.
+/// How many classes are looked at together. A policy of many classes needn't look at all.
 const GROUP: usize = 8;
 
 /// The value of an absent number, above every value that a condition allows.
@@ -61,30 +61,43 @@ fn holds(bounds: &Bounds, numbers: &[u64; COUNT]) -> bool
     (bounds.low <= number) & (number <= bounds.high)
 }
 
-/// Returns whether all of these bounds hold. It is a call of its own because few classes have more
-/// than two tests.
-#[inline(never)]
+/// Returns the index of the first class whose first two bounds hold, or the number of classes if
+/// there is none. Looks at every class, so that no branch depends on the packet.
+#[inline(always)]
+fn first_held(classes: &[Prepared], numbers: &[u64; COUNT]) -> usize
+    ensures { result ≡ position_or_len (both_hold numbers.now) classes.now }
+{
+    let mut found = classes.len();
+    for place in (0..classes.len()).rev() {
+        let class = &classes[place];
+        if holds(&class.first, numbers) & holds(&class.second, numbers) {
+            found = place;
+        }
+    }
+    found
+}
+
 fn all_hold(others: &[Bounds], numbers: &[u64; COUNT]) -> bool
     ensures { result ≡ list_all (holds numbers.now) others.now }
 {
     others.iter().all(|bounds| holds(bounds, numbers))
 }
 
-/// Returns the index of the first of these classes that is met, or their count if none is. Looks at
-/// all of them, from the last to the first, so that no branch depends on the packet.
-#[inline(always)]
-fn first_met(classes: &[Prepared], numbers: &[u64; COUNT]) -> usize
-    ensures { result ≡ position_or_len (is_met numbers.now) classes.now }
+fn is_met(class: &Prepared, numbers: &[u64; COUNT]) -> bool
+    ensures { result ≡ is_met numbers.now class.now }
 {
-    let mut found = classes.len();
-    for place in (0..classes.len()).rev() {
-        let class = &classes[place];
-        let both = holds(&class.first, numbers) & holds(&class.second, numbers);
-        if both & (class.others.is_empty() || all_hold(&class.others, numbers)) {
-            found = place;
-        }
-    }
-    found
+    holds(&class.first, numbers)
+        && holds(&class.second, numbers)
+        && all_hold(&class.others, numbers)
+}
+
+/// Returns the index of the first class that is met. It is a call of its own because few classes
+/// have more than two tests.
+#[inline(never)]
+fn place_met(classes: &[Prepared], numbers: &[u64; COUNT]) -> Option<usize>
+    ensures { result ≡ position (is_met numbers.now) classes.now }
+{
+    classes.iter().position(|class| is_met(class, numbers))
 }
 
 /// The classes of a policy, prepared for classifying many packets.
@@ -152,13 +165,20 @@ impl<'a> Classifier<'a> {
         let mut from = 0;
         while from < self.classes.len() {
             let end = self.classes.len().min(from + GROUP);
-            let found = from + first_met(&self.classes[from..end], numbers);
+            let found = from + first_held(&self.classes[from..end], numbers);
             if found < end {
-                return found as u32;
+                if self.classes[found].others.is_empty() {
+                    return found as u32;
+                }
+                // Its other bounds may not hold.
+                break;
             }
             from = end;
         }
-        unreachable!()
+        match place_met(&self.classes, numbers) {
+            Some(place) => place as u32,
+            None => unreachable!(),
+        }
     }
 
     /// Returns the first class to which a packet of this original length belongs, if the classes

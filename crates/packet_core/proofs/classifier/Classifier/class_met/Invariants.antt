@@ -1,10 +1,11 @@
-use Rattle.packet_core.proofs.Prelude.{◌≡◌, ◌≤◌, ◌+◌, ◌-◌, length, drop, position_or_len, is_met}
+use Rattle.packet_core.specs.declared.bounds.Prepared.{Prepared}
+use Rattle.packet_core.proofs.Prelude.{ℕ, ◌≡◌, ◌≤◌, ◌<◌, ◌-◌, length, get_or, false, is_met}
 use Rattle.packet_core.proofs.classifier.Classifier.class_met.Given as goal
 
 abbrev pub invariant-loop-from : goal.invariant-loop-from
 invariant-loop-from l = record {
   within : l.from ≤ length l.self.classes.items;
-  passed : position_or_len (is_met l.numbers) l.self.classes.items ≡ l.from + position_or_len (is_met l.numbers) (drop l.from l.self.classes.items);
+  passed : (k : ℕ) (d : Prepared) → k < l.from → is_met l.numbers (get_or l.self.classes.items k d) ≡ false;
 }
 
 abbrev pub decreases-loop-from : goal.decreases-loop-from
