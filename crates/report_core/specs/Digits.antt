@@ -23,7 +23,3 @@ IsAfter before unit least text = (n : ℕ) → least ≡ unit * n → text ≡ b
 -- the two digits of a number below 100
 abbrev pub pair : ℕ → List ℕ
 pair n = (48 + n / 10) ∷ (48 + n % 10) ∷ []
-
--- the eight digits of a number below 10^8, with leading zeros
-abbrev pub eight : ℕ → List ℕ
-eight n = pair (n / 10000 / 100) ++ pair (n / 10000 % 100) ++ pair (n % 10000 / 100) ++ pair (n % 10000 % 100)

@@ -2,7 +2,7 @@
 //! may change.
 ghost use Rattle.std.specs.Prelude.{◌≡◌, ◌+◌, ◌/◌, ◌%◌, ◌<◌, ◌≤◌, true, [], ◌∷◌, ◌++◌, length, take, decimal};
 ghost use Rattle.outside_core.specs.Report.{ranks_text};
-ghost use Rattle.report_core.specs.Digits.{IsNear, IsAfter, eight};
+ghost use Rattle.report_core.specs.Digits.{IsNear, IsAfter, pair};
 
 use itoa::{Buffer, write_digits};
 use std::marker::Model;
@@ -16,26 +16,6 @@ const DIGITS: usize = 20;
 /// The two digits of each number below 100.
 static PAIRS: [u8; 200] =
     *b"00010203040506070809101112131415161718192021222324252627282930313233343536373839404142434445464748495051525354555657585960616263646566676869707172737475767778798081828384858687888990919293949596979899";
-
-/// The powers of ten below 10^16.
-static TENS: [u64; 16] = [
-    1,
-    10,
-    100,
-    1_000,
-    10_000,
-    100_000,
-    1_000_000,
-    10_000_000,
-    100_000_000,
-    1_000_000_000,
-    10_000_000_000,
-    100_000_000_000,
-    1_000_000_000_000,
-    10_000_000_000_000,
-    100_000_000_000_000,
-    1_000_000_000_000_000,
-];
 
 /// The leading digits of a number, those of its quotient by `UNIT`, stored for the next number.
 /// Numbers such as those of events follow one another, and the next one often has the same.
@@ -143,27 +123,15 @@ fn put_small(line: &mut [u8], at: usize, value: u64, after: u8) -> usize
     put_array(line, end, [after])
 }
 
-/// The eight digits of a number below 10^8, with leading zeros.
+/// The four digits of a number below 10,000.
 #[inline(always)]
-fn eight(value: u64) -> [u8; 8]
-    requires few { value < 100000000 }
-    ensures { result ≡ eight value }
+fn four(value: u64) -> [u8; 4]
+    requires few { value < 10000 }
+    ensures { result ≡ pair (value / 100) ++ pair (value % 100) }
 {
-    let (upper, lower) = (value / 10_000, value % 10_000);
-    let first = 2 * (upper / 100) as usize;
-    let second = 2 * (upper % 100) as usize;
-    let third = 2 * (lower / 100) as usize;
-    let last = 2 * (lower % 100) as usize;
-    [
-        PAIRS[first],
-        PAIRS[first + 1],
-        PAIRS[second],
-        PAIRS[second + 1],
-        PAIRS[third],
-        PAIRS[third + 1],
-        PAIRS[last],
-        PAIRS[last + 1],
-    ]
+    let first = 2 * (value / 100) as usize;
+    let last = 2 * (value % 100) as usize;
+    [PAIRS[first], PAIRS[first + 1], PAIRS[last], PAIRS[last + 1]]
 }
 
 /// How many starts have the leading digits that are stored.
@@ -184,7 +152,9 @@ fn put_late(stored: &mut Leading<STARTS>, line: &mut [u8], at: usize, value: u64
         stored.renew(value);
     }
     let leading_end = stored.put(line, at);
-    put_array(line, leading_end, eight(value - stored.least))
+    let rest = value - stored.least;
+    let middle_end = put_array(line, leading_end, four(rest / 10_000));
+    put_array(line, middle_end, four(rest % 10_000))
 }
 
 /// Writes a fixed number of bytes at an offset, and returns the offset after them.
@@ -241,8 +211,7 @@ pub fn put_name(line: &mut [u8], at: usize, name: &str) -> usize
     end
 }
 
-/// Writes the digits of a number in the same way. Up to 10^16 it writes eight or sixteen digits, of
-/// which the last ones may be zeros behind the number: no step depends on how many digits it has.
+/// Writes the digits of a number in the same way.
 #[inline(always)]
 pub fn put_number(line: &mut [u8], at: usize, value: u64) -> usize
     requires room { at + 20 ≤ length line.old }
@@ -253,17 +222,9 @@ pub fn put_number(line: &mut [u8], at: usize, value: u64) -> usize
     if value < 10 {
         return put_array(line, at, [b'0' + value as u8]);
     }
-    let count = value.ilog10() as usize + 1;
-    if count <= 8 {
-        put_array(line, at, eight(value * TENS[8 - count]));
-    } else if count <= 16 {
-        let whole = value * TENS[16 - count];
-        put_array(line, at, eight(whole / 100_000_000));
-        put_array(line, at + 8, eight(whole % 100_000_000));
-    } else {
-        write_digits(value, line, at + count);
-    }
-    at + count
+    let end = at + value.ilog10() as usize + 1;
+    write_digits(value, line, end);
+    end
 }
 
 /// Writes a space, and then a start in nanoseconds, in the same way. The leading digits are often

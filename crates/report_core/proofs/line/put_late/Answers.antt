@@ -15,7 +15,9 @@ returns-clause-text c =
     ] in
     let start = take c.args.at c.args.line.now in
     let first = take c.put-leading_end.result c.put-leading_end.new.line in
-    late_in_line c.args.value i.leading (c.args.value - kept.least) start first (take c.put_array.result c.put_array.new.line)
+    let middle = take c.put_array-middle_end.result c.put_array-middle_end.new.line in
+    late_in_line c.args.value i.leading (c.args.value - kept.least) start first middle (take c.put_array.result c.put_array.new.line)
     (omega (arith, near.low, i.round)) i.some (omega (arith, near.high)) c.ranges.value.fits
     (c.put-leading_end.ensures.text i.leading (sym c.stored-2.view_is ∙ i.round))
-    (c.put_array.ensures.text ∙ ap (λ l. first ++ l) c.eight.ensures)
+    (c.put_array-middle_end.ensures.text ∙ ap (λ l. first ++ l) c.four.ensures)
+    (c.put_array.ensures.text ∙ ap (λ l. middle ++ l) c.four-2.ensures)
