@@ -16,8 +16,6 @@ pub struct FlatFabric {
     queues: Vec<HeapPifo>,
     pushed: u64,
     popped: u64,
-    /// The index of the leaf of the last pop.
-    leaf: usize,
 }
 
 impl Model for FlatFabric {
@@ -44,7 +42,6 @@ impl FlatFabric {
             queues: empty_queues(alloc, &[])?,
             pushed: 0,
             popped: 0,
-            leaf: 0,
         })
     }
 }
@@ -86,12 +83,7 @@ impl Fabric for FlatFabric {
     #[inline(always)]
     fn pop(&mut self, digits: &mut [u32], ranks: &mut [u64]) -> Option<u64> {
         self.popped += 1;
-        pop_along(&mut self.queues, &self.shape, digits, ranks, &mut self.leaf)
-    }
-
-    #[inline(always)]
-    fn last_leaf(&self) -> usize {
-        self.leaf
+        pop_along(&mut self.queues, &self.shape, digits, ranks)
     }
 
     fn pushes(&self) -> u64 {

@@ -1,7 +1,6 @@
 pub mod Prelude
 pub mod RangeLaws
 pub mod FirstClass
-pub mod Groups
 pub mod WithinBounds
 pub mod Prepare
 pub mod AskLaws

@@ -18,4 +18,4 @@ pub use Rattle.packet_core.specs.Classes.{IsSorted, IsSortedByFields, AreBounds,
 pub use Rattle.packet_core.specs.Classifier.{policy_of, HasClassOf}
 pub use Rattle.packet_core.specs.Tests.{field_of, range_of, probe_of, test_of, tests_of, classes_of, passes_all}
 pub use Rattle.packet_core.specs.Rules.{is_found_by, passes_by, all_pass, one_passes, asks, one_asks}
-pub use Rattle.packet_core.specs.Numbers.{numbers_of, holds, both_hold, is_met, absent, address, number, place}
+pub use Rattle.packet_core.specs.Numbers.{numbers_of, holds, is_met, absent, address, number, place}

@@ -1,8 +1,9 @@
 -- The prepared classes of a policy.
-use Rattle.packet_core.proofs.Prelude.{◌∙◌, sym, ap, arith, length, ◌<◌, ◌≤◌, get_or, map, List, ℕ, ◌≡◌, refl, position, Bool, true, [], ◌∷◌, Header, belongs, class_among, range_of, tests_of, classes_of, passes_all, test_of, Class, Written, AreBounds, AreRules, AreSame, AreTested, numbers_of, is_met, one_passes, all_pass, passes, list_all-map, list_all}
+use Rattle.packet_core.proofs.Prelude.{◌∙◌, sym, ap, arith, length, ◌<◌, ◌≤◌, ◌&&◌, get_or, map, List, ℕ, ◌≡◌, refl, position, Bool, true, [], ◌∷◌, Header, belongs, class_among, range_of, tests_of, classes_of, passes_all, test_of, Class, Written, AreBounds, AreRules, AreSame, AreTested, numbers_of, is_met, one_passes, all_pass, passes, list_all-map, list_all}
 use Rattle.std.specs.Prelude.{◌||◌}
 use Rattle.std.specs.List.{list_any}
 use Rattle.std.proofs.Math.Bool.{or-false}
+use Rattle.packet_core.specs.declared.bounds.Bounds.{Bounds}
 use Rattle.policy_text_defs.specs.declared.test.Range.{Range}
 use Rattle.packet_defs.specs.Test.{Test, is_in}
 use Rattle.packet_core.specs.declared.bounds.Prepared.{Prepared}
@@ -74,3 +75,7 @@ pub belongs-one : (header : Header) (n : ℕ) (alternatives : List (List Written
 belongs-one header n [] d some few = absurd (omega (arith, some))
 belongs-one header n (x ∷ []) d some few = sym (list_all-map (passes header n) test_of x) ∙ sym (or-false (list_all (passes header n) (map test_of x)))
 belongs-one header n (x ∷ y ∷ ys) d some few = absurd (omega (arith, few))
+
+-- a class without alternatives
+pub belongs-none : (header : Header) (n : ℕ) (f : Bounds → Bool) (first : Bool) (xs : List Bounds) (alternatives : List (List Written)) → first ≡ true → xs ≡ [] → alternatives ≡ [] → (first && list_all f xs) ≡ belongs header n (tests_of alternatives)
+belongs-none header n f first xs alternatives all none nothing = rw (all, none, nothing) refl

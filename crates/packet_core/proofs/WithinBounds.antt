@@ -6,8 +6,6 @@ use Rattle.std.proofs.lemmas.Bool.{cases_order, cases_lt, eq-eqb, ne_eqb, le-leb
 use Rattle.std.proofs.lemmas.Bool.Decides.{nat_tests}
 use Rattle.std.proofs.lemmas.Nat.{div-add-mod', mul-add-lt, shl_whole, one_shl, pow_pos, shr_le, shr_split}
 use Rattle.std.proofs.Math.Nat.{mod-lt, mul_comm, min-eq_left, min-eq_right, pow-le-pow_right}
-use Rattle.std.proofs.lemmas.List.{take-append-drop}
-use Rattle.std.proofs.lemmas.List.Folds.{list_all-append}
 use Rattle.std.proofs.lemmas.List.Quantifiers.{position-Some}
 
 -- the number b is in block q of s numbers exactly if q is b / s
@@ -130,21 +128,10 @@ pub found-there : {X : Type 0} (p : X → Bool) (xs : List X) (r : ℕ) → (pos
 found-there p [] r found is = absurd (found refl)
 found-there p (x ∷ xs) r found is = found-below (position p (x ∷ xs)) r (length (x ∷ xs)) found (λ k e. (position-Some p (x ∷ xs) k x e).0) is
 
--- -- ---- a class, by its first two bounds and the others
-in-parts : {Y : Type 0} (g : Y → Bool) (ys : List Y) (k : ℕ) → (list_all g (take k ys) && list_all g (drop k ys)) ≡ list_all g ys
-in-parts g ys k = sym (list_all-append g (take k ys) (drop k ys)) ∙ ap (list_all g) (take-append-drop k ys)
+-- -- ---- a class, by its first bounds and the others
+pub met-none : {X Y : Type 0} (f : X → Bool) (g : Y → Bool) (first : Bool) (xs : List X) (ys : List Y) → first ≡ true → xs ≡ [] → ys ≡ [] → (first && list_all f xs) ≡ list_all g ys
+met-none f g first xs ys all none nothing = rw (all, none, nothing) refl
 
-pub met-in-parts : {X Y : Type 0} (f : X → Bool) (g : Y → Bool) (first second : Bool) (xs : List X) (ys : List Y) (k m : ℕ)
-    → first ≡ list_all g (take k ys) → second ≡ list_all g (take m (drop k ys)) → list_all f xs ≡ list_all g (drop m (drop k ys))
-    → ((first && second) && list_all f xs) ≡ list_all g ys
-met-in-parts f g first second xs ys k m one other rest =
-    and-and first second (list_all f xs)
-    ∙ ap (λ b. b && (second && list_all f xs)) one
-    ∙ ap (λ b. list_all g (take k ys) && (b && list_all f xs)) other
-    ∙ ap (λ b. list_all g (take k ys) && (list_all g (take m (drop k ys)) && b)) rest
-    ∙ ap (λ b. list_all g (take k ys) && b) (in-parts g (drop k ys) m)
-    ∙ in-parts g ys k
-  where
-    and-and : (a b c : Bool) → ((a && b) && c) ≡ (a && (b && c))
-    and-and true b c = refl
-    and-and false b c = refl
+pub met-some : {X Y : Type 0} (f : X → Bool) (g : Y → Bool) (first : Bool) (xs : List X) (ys : List Y) (d : Y) → 0 < length ys → first ≡ g (get_or ys 0 d) → list_all f xs ≡ list_all g (drop 1 ys) → (first && list_all f xs) ≡ list_all g ys
+met-some f g first xs [] d some same others = absurd (omega (arith, some))
+met-some f g first xs (y ∷ ys) d some same others = ap (λ b. b && list_all f xs) same ∙ ap (λ b. g y && b) others

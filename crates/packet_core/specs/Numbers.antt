@@ -40,10 +40,6 @@ numbers_of fields length =
 abbrev pub holds : List ℕ → Bounds → Bool
 holds numbers bounds = nat_le bounds.low (slice_index numbers bounds.place) && nat_le (slice_index numbers bounds.place) bounds.high
 
--- the first two bounds of a class hold
-abbrev pub both_hold : List ℕ → Prepared → Bool
-both_hold numbers class = holds numbers class.first && holds numbers class.second
-
 -- all bounds of a class hold
 abbrev pub is_met : List ℕ → Prepared → Bool
-is_met numbers class = both_hold numbers class && list_all (holds numbers) class.others.items
+is_met numbers class = holds numbers class.first && list_all (holds numbers) class.others.items

@@ -10,11 +10,10 @@ pub(crate) struct Bounds {
     ghost there: { place < 9 },
 }
 
-/// The bounds of a class, one for each test. Every packet meets `second` in a class with one test,
-/// and both `first` and `second` in a class without tests.
+/// The bounds of a class, one for each test. A class without tests has bounds that every packet
+/// meets.
 #[derive(Drop)]
 pub(crate) struct Prepared {
     pub(crate) first: Bounds,
-    pub(crate) second: Bounds,
     pub(crate) others: Vec<Bounds>,
 }

@@ -1,8 +1,7 @@
 //! The classes of a policy, prepared for classifying many packets.
-ghost use Rattle.std.specs.Prelude.{◌≡◌, ◌≤◌, length, position, true, false};
-ghost use Rattle.std.specs.List.{list_all, position_or_len};
+ghost use Rattle.std.specs.Prelude.{◌≡◌, ◌≤◌, length, true, false};
 ghost use Rattle.packet_core.specs.Tests.{classes_of};
-ghost use Rattle.packet_core.specs.Numbers.{both_hold, holds, is_met, numbers_of};
+ghost use Rattle.packet_core.specs.Numbers.{holds, is_met, numbers_of};
 ghost use Rattle.packet_core.specs.Rules.{one_asks};
 ghost use Rattle.packet_core.specs.Classes.{AreSame, AreTested, GivesEach};
 
@@ -20,9 +19,6 @@ use std::alloc::{AllocError, Global};
 
 /// How many numbers of a packet are bounded, each at its own index.
 const COUNT: usize = 9;
-
-/// How many classes are looked at together. A policy of many classes needn't look at all.
-const GROUP: usize = 8;
 
 /// The value of an absent number, above every value that a condition allows.
 const ABSENT: u64 = u64::MAX;
@@ -57,47 +53,7 @@ fn holds(bounds: &Bounds, numbers: &[u64; COUNT]) -> bool
     ensures { result ≡ holds numbers.now bounds.now }
 {
     let number = numbers[bounds.place];
-    // Without `&&` there is no branch that depends on the packet.
-    (bounds.low <= number) & (number <= bounds.high)
-}
-
-/// Returns the index of the first class whose first two bounds hold, or the number of classes if
-/// there is none. Looks at every class, so that no branch depends on the packet.
-#[inline(always)]
-fn first_held(classes: &[Prepared], numbers: &[u64; COUNT]) -> usize
-    ensures { result ≡ position_or_len (both_hold numbers.now) classes.now }
-{
-    let mut found = classes.len();
-    for place in (0..classes.len()).rev() {
-        let class = &classes[place];
-        if holds(&class.first, numbers) & holds(&class.second, numbers) {
-            found = place;
-        }
-    }
-    found
-}
-
-fn all_hold(others: &[Bounds], numbers: &[u64; COUNT]) -> bool
-    ensures { result ≡ list_all (holds numbers.now) others.now }
-{
-    others.iter().all(|bounds| holds(bounds, numbers))
-}
-
-fn is_met(class: &Prepared, numbers: &[u64; COUNT]) -> bool
-    ensures { result ≡ is_met numbers.now class.now }
-{
-    holds(&class.first, numbers)
-        && holds(&class.second, numbers)
-        && all_hold(&class.others, numbers)
-}
-
-/// Returns the index of the first class that is met. It is a call of its own because few classes
-/// have more than two tests.
-#[inline(never)]
-fn place_met(classes: &[Prepared], numbers: &[u64; COUNT]) -> Option<usize>
-    ensures { result ≡ position (is_met numbers.now) classes.now }
-{
-    classes.iter().position(|class| is_met(class, numbers))
+    bounds.low <= number && number <= bounds.high
 }
 
 /// The classes of a policy, prepared for classifying many packets.
@@ -162,20 +118,15 @@ impl<'a> Classifier<'a> {
         ensures there { result < length (policy_of self.now).policy.classes }
     {
         let numbers = &numbers_of(fields, len);
-        let mut from = 0;
-        while from < self.classes.len() {
-            let end = self.classes.len().min(from + GROUP);
-            let found = from + first_held(&self.classes[from..end], numbers);
-            if found < end {
-                if self.classes[found].others.is_empty() {
-                    return found as u32;
-                }
-                // Its other bounds may not hold.
-                break;
-            }
-            from = end;
-        }
-        match place_met(&self.classes, numbers) {
+        let met = self.classes.iter().position(
+            |class: &Prepared| -> bool
+                ensures { result ≡ is_met numbers.entry.now class.now }
+            {
+                holds(&class.first, numbers)
+                    && class.others.iter().all(|bounds| holds(bounds, numbers))
+            },
+        );
+        match met {
             Some(place) => place as u32,
             None => unreachable!(),
         }

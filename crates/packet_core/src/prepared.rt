@@ -1,5 +1,5 @@
 //! Classes whose tests are bounds on numbers, prepared for testing many packets.
-ghost use Rattle.std.specs.Prelude.{◌≡◌, ◌<◌, ◌≤◌, ◌^◌, ◌&&◌, ℕ, true, nat_le, length, map, position, IfOk, IfSome};
+ghost use Rattle.std.specs.Prelude.{◌≡◌, ◌<◌, ◌^◌, ◌&&◌, ℕ, true, nat_le, map, position, IfOk, IfSome};
 ghost use Rattle.std.specs.List.{list_all};
 ghost use Rattle.packet_defs.specs.declared.fields.Fields.{Fields};
 ghost use Rattle.packet_defs.specs.declared.extra.Header.{Header};
@@ -143,38 +143,22 @@ fn bounds_of(alloc: Global, tests: &[Test]) -> Result<Option<Vec<Bounds>>, Alloc
     Ok(Some(all))
 }
 
-/// Returns the bounds of at most one test, if it is one bound. Without a test, every packet meets
-/// them.
-fn bounds_or_anything(tests: &[Test]) -> Option<Bounds>
-    requires { length tests.now ≤ 1 }
-    ensures { IfSome result (λ bounds. (header : Header) (n : ℕ) →
-        holds (numbers_of header.fields n) bounds ≡ passes_all header n tests.now) }
-{
-    if tests.is_empty() {
-        return Some(anything());
-    }
-    bound_of(&tests[0])
-}
-
-/// Prepares the tests of a class with at most one alternative, if each is one bound.
+/// Prepares the tests of a class with one alternative, if each is one bound.
 fn prepare_tests(alloc: Global, tests: &[Test]) -> Result<Option<Prepared>, AllocError>
     ensures { IfOk result (λ some. IfSome some (λ class. (header : Header) (n : ℕ) →
         is_met (numbers_of header.fields n) class ≡ passes_all header n tests.now)) }
 {
-    let (first, later) = tests.split_at(tests.len().min(1));
-    let (second, others) = later.split_at(later.len().min(1));
-    let Some(first) = bounds_or_anything(first) else {
+    if tests.is_empty() {
+        return Ok(Some(Prepared {
+            first: anything(),
+            others: Vec::new(alloc),
+        }));
+    }
+    let Some(first) = bound_of(&tests[0]) else {
         return Ok(None);
     };
-    let Some(second) = bounds_or_anything(second) else {
-        return Ok(None);
-    };
-    match bounds_of(alloc, others)? {
-        Some(others) => Ok(Some(Prepared {
-            first,
-            second,
-            others,
-        })),
+    match bounds_of(alloc, &tests[1..])? {
+        Some(others) => Ok(Some(Prepared { first, others })),
         None => Ok(None),
     }
 }
@@ -185,7 +169,10 @@ fn prepare(alloc: Global, alternatives: &[List<Test>]) -> Result<Option<Prepared
         is_met (numbers_of header.fields n) class ≡ belongs header n (tests_of alternatives.now))) }
 {
     if alternatives.is_empty() {
-        return prepare_tests(alloc, &[]);
+        return Ok(Some(Prepared {
+            first: anything(),
+            others: Vec::new(alloc),
+        }));
     }
     if alternatives.len() > 1 {
         return Ok(None);

@@ -139,7 +139,6 @@ impl<'a, F: Fabric> Scheduler for Embedded<'a, F> {
         table.pick(
             map,
             &self.lifted_paths,
-            under.last_leaf(),
             &embedding.digits,
             &embedding.ranks,
             trace,
