@@ -1,9 +1,11 @@
 -- A queue in a run and a heap: after a push, and after a pop.
-use Rattle.pifo_core.proofs.Prelude.{top_of, arith, ◌≡◌, ap, ◌∙◌, false, length, ◌<◌, ◌≤◌, [], refl, sym, true, Some, map, ◌∷◌, List, get_or, suc, ℕ, ◌+◌, inl, inr, ◌++◌, subst, eq-or-lt_of_le, nat_tests, All-from_recursion, recursion_from_All, IsDistinct-IsPermutation, AllByRecursion, IsPermutation, Reverse, put, take_least, held_of_both, IsHeaped, IsUpTo, TopIsFirst, arrived_together, leads, heap_order, held_of, leaving_order, queue_of, ArrivedBefore, InLeavingOrder, Leaves, wide, Held}
-use Rattle.std.specs.List.{IsDistinct}
+use Rattle.pifo_core.proofs.Prelude.{top_of, arith, ◌≡◌, ap, ◌∙◌, false, length, ◌<◌, ◌≤◌, [], refl, sym, true, Some, map, ◌∷◌, List, get_or, suc, ℕ, ◌+◌, inl, inr, ◌++◌, subst, eq-or-lt_of_le, nat_tests, All-from_recursion, recursion_from_All, IsDistinct-IsPermutation, AllByRecursion, IsPermutation, Reverse, put, take_least, held_of_both, IsHeaped, IsUpTo, TopIsFirst, arrived_together, leads, heap_order, held_of, leaving_order, queue_of, ArrivedBefore, InLeavingOrder, Leaves, wide, Held, take, drop, ◌-◌}
+use Rattle.std.specs.List.{IsDistinct, slice_get}
+use Rattle.std.proofs.lemmas.Option.{slice_get_within, get_or_from_slice_get}
+use Rattle.std.proofs.Math.Seq.{take_all}
 use Rattle.std.specs.Ordering.{is_lt}
 use Rattle.std.specs.BinaryHeap.{IsHeap, IsUpperBound}
-use Rattle.std.proofs.lemmas.List.{append-nil, map-append, length-append}
+use Rattle.std.proofs.lemmas.List.{append-nil, map-append, length-append, length-drop, get_or-drop, drop_more}
 use Rattle.std.proofs.lemmas.List.Sorted.{IsPermutation-refl, IsPermutation-sym, IsPermutation-trans, IsPermutation-middle, IsPermutation-append_right, IsPermutation-map, All-permutation}
 use Rattle.pifo_core.specs.declared.held.Brief.{Brief}
 use Rattle.pifo_core.proofs.HeldLaws.{taking, All-weaker, All-append, All-front, All-back, leave_before, InLeavingOrder-insert, queue_of-empty, queue_of-insert, queue_of-first, length-queue_of}
@@ -225,3 +227,15 @@ length-wide (b ∷ run) = ap suc (length-wide run)
 pub length-queue_of_both : (run : List Brief) (items : List (Reverse Held)) → length (queue_of (held_of_both run items)) ≡ length run + length items
 length-queue_of_both run items =
     length-queue_of (held_of_both run items) ∙ length-append (map wide run) (held_of items) ∙ omega (arith, length-wide run, length-held_of items)
+
+-- the entries of the run from `head` on
+pub from_on : (run : List Brief) (head : ℕ) → take (length run - head) (drop head run) ≡ drop head run
+from_on run head = let long = length-drop head run in take_all (length run - head) (drop head run) (omega (arith, long))
+
+pub first_on : (run : List Brief) (head : ℕ) (b : Brief) → slice_get (take (length run - head) (drop head run)) 0 ≡ Some b → drop head run ≡ b ∷ drop (head + 1) run
+first_on run head b h =
+    let at : slice_get (drop head run) 0 ≡ Some b = ap (λ (l : List Brief). slice_get l 0) (sym (from_on run head)) ∙ h in
+    let some : 0 < length (drop head run) = slice_get_within (drop head run) 0 b at in
+    let long = length-drop head run in
+    let is : get_or run head b ≡ b = ap (λ k. get_or run k b) (omega arith) ∙ sym (get_or-drop head run 0 b) ∙ get_or_from_slice_get (drop head run) 0 b b at in
+    drop_more run head b (omega (arith, some, long)) ∙ ap (λ x. x ∷ drop (head + 1) run) is
