@@ -75,7 +75,7 @@ within-rest first c cs n h = split (n / 64) first
 pub found-named : (first : ℕ) (cs : List Chunk) (n : ℕ) → IfSome (packet_within first cs n) (λ p. p.number ≡ n)
 found-named first [] n = tt
 found-named first (c ∷ cs) n = split (n / 64) first
-    (λ same. subst (λ (o : Option Packet). IfSome o (λ p. p.number ≡ n)) (sym (here first c cs n same)) (named c.slots.items n))
+    (λ same. subst (λ (o : Option Packet). IfSome o (λ p. p.number ≡ n)) (sym (here first c cs n same)) (named c.base c.slots.items n))
     (λ other. subst (λ (o : Option Packet). IfSome o (λ p. p.number ≡ n)) (sym (later first c cs n other)) (found-named (first + 1) cs n))
 
 self-named : (f : ℕ → Option Packet) (n : ℕ) (o : Option Packet) → f n ≡ o → IfSome o (λ p. p.number ≡ n) → IfSome o (λ p. f p.number ≡ Some p)

@@ -1,6 +1,6 @@
 -- The names that the proofs of this crate take from outside, passed on from one place. Declares nothing.
 pub use Rattle.std.proofs.Common.{arith, ◌≡◌, ap, ◌∙◌, sym, ℕ, List, length, subst, Some, ◌<◌, [], refl, ◌∷◌, Option, None, ◌+◌, ◌≤◌, get_or, suc, zero, ◌++◌, is_some, if◌then◌else◌, nat_eq, ◌==◌, Bool, false, take, true≢false, ap₂, drop, set, true, ◌%◌, ◌&&◌, ◌-◌, ◌≢◌, map, ◌^◌, IfSome, rules, ◌||◌, add-one, eq-eqb, ne_eqb, ◌↔◌, IsSome, append-nil, append_assoc, bytes_eq, codes, eqb-true, inl, inr, max, nat_le, nat_lt, replicate, ◌/◌}
-pub use Rattle.std.proofs.lemmas.Bool.{ltb-true, and_from, and_parts, cases_eq, eqb-false, le-leb, leb-true, ltb-false}
+pub use Rattle.std.proofs.lemmas.Bool.{ltb-true, and_from, and_parts, cases_eq, eqb-false, le-leb, leb-true, ltb-false, lt-ltb}
 pub use Rattle.std.proofs.lemmas.List.{length-append, drop_all, drop_more, take_more, get_or-replicate, length-map, length-replicate, length-set, length-take-le, take-append-drop, take_all}
 pub use Rattle.std.proofs.lemmas.List.Folds.{list_any-append}
 pub use Rattle.std.proofs.lemmas.Option.{slice_get-get_or, slice_get-map, get_or_from_slice_get, slice_get_within}
@@ -47,7 +47,7 @@ pub use Rattle.sched_core.specs.Chunks.{packet_within, packet_from, packet_of, n
 pub use Rattle.sched_core.specs.Held.{or_stray, held_at, numbers_in}
 pub use Rattle.sched_core.specs.Kept.{part_at, HaveValues, AreNodeStates, HasRoomAt, IsNodeStateOf, arity, Keeps}
 pub use Rattle.sched_core.specs.PolicyState.{policy_in, AreFilled, PopsNext}
-pub use Rattle.sched_core.specs.Slots.{packet_in, packet_among, are_ordered, filled_among, place_behind, stands_at}
+pub use Rattle.sched_core.specs.Slots.{packet_in, packet_among, are_ordered, filled_among, place_behind, stands_at, place_of, is_filled, base_with, later_than}
 pub use Rattle.sched_core.specs.PathNodes.{marks_on, ArePathNodes, rank_told, IsPathNode, AreWays, mark_told}
 pub use Rattle.sched_core.specs.Ways.{tree_for, class_for, IsReady, ForValues, KeepsRoom, stop, AreLowRanks, ahead, part, place, way, who_on, HasRoomAtLeaf, IsAtLevel, ValuesBecome}
 pub use Rattle.sched_core.specs.Windows.{packet_at, end_of}

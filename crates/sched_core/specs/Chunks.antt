@@ -6,7 +6,7 @@ use Rattle.sched_core.specs.Slots.{packet_among}
 
 -- the packet in a chunk under a number of that chunk
 abbrev pub packet_of : Chunk → ℕ → Option Packet
-packet_of chunk n = packet_among chunk.slots.items n
+packet_of chunk n = packet_among chunk.base chunk.slots.items n
 
 -- the packet under a number in chunks, the first of which is for the numbers from 64 first on
 abbrev pub packet_within : ℕ → List Chunk → ℕ → Option Packet

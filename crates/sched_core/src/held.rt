@@ -74,7 +74,7 @@ impl Window {
     }
 
     /// Returns whether two thirds or more of the numbers up to one have no packet here. A stray
-    /// takes the room of three slots.
+    /// takes the room of several slots.
     #[inline(always)]
     fn is_sparse(&self, number: u64) -> bool {
         let span = number.saturating_sub(self.first * WIDTH);
@@ -94,7 +94,7 @@ impl Window {
         }
     }
 
-    /// Adds a packet if its addresses are short, and returns whether it is in the window now.
+    /// Adds a packet if it fits a slot, and returns whether it is in the window now.
     #[inline(always)]
     fn push(&mut self, packet: &Packet) -> Result<bool, AllocError>
         requires below { packet.now.number < end_of self.old }

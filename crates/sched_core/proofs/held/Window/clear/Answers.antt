@@ -103,7 +103,7 @@ invariant_of-self-2 c =
 
 -- ---- empty chunks before all others are dropped
 none-in : (chunk x : Chunk) (n : ℕ) → chunk ≡ x → chunk.filled ≡ 0 → packet_of x n ≡ None
-none-in chunk x n is none = sym (ap (λ (y : Chunk). packet_of y n) is) ∙ among-none chunk.slots.items n (sym chunk.counted ∙ none)
+none-in chunk x n is none = sym (ap (λ (y : Chunk). packet_of y n) is) ∙ among-none chunk.base chunk.slots.items n (sym chunk.counted ∙ none)
 
 pub invariant_of-self-in-loop-self : goal.invariant_of-self-in-loop-self
 invariant_of-self-in-loop-self c =
