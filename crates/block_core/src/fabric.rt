@@ -15,6 +15,8 @@ pub struct BlockFabric {
     queues: Vec<BlockPifo>,
     pushed: u64,
     popped: u64,
+    /// The index of the leaf of the last pop.
+    leaf: usize,
     spilled: u128,
 }
 
@@ -47,6 +49,7 @@ impl BlockFabric {
             queues: empty_queues(alloc, &[])?,
             pushed: 0,
             popped: 0,
+            leaf: 0,
             spilled: 0,
         })
     }
@@ -94,7 +97,12 @@ impl Fabric for BlockFabric {
 
     fn pop(&mut self, digits: &mut [u32], ranks: &mut [u64]) -> Option<u64> {
         self.popped += 1;
-        pop_along(&mut self.queues, &self.shape, digits, ranks)
+        pop_along(&mut self.queues, &self.shape, digits, ranks, &mut self.leaf)
+    }
+
+    #[inline(always)]
+    fn last_leaf(&self) -> usize {
+        self.leaf
     }
 
     fn pushes(&self) -> u64 {

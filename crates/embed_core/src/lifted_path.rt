@@ -93,7 +93,8 @@ impl<'a> Way for Steps<'a> {
 /// path may lead to another leaf.
 #[derive(Drop)]
 pub struct LeafTable {
-    arities: Vec<u32>,
+    /// How many nodes of the target are above its leaves.
+    inner: usize,
     paths: Vec<u32>,
 }
 
@@ -104,7 +105,8 @@ impl LeafTable {
         arities: &[u32],
         paths: &[LiftedPath],
     ) -> Result<LeafTable, AllocError> {
-        let mut table = vec![in alloc; 0; leaf_count(arities)]?;
+        let (inner, leaves) = node_counts(arities);
+        let mut table = vec![in alloc; 0; leaves]?;
         for (index, path) in paths.iter().enumerate() {
             let place = leaf_place(arities, &path.image);
             if let (Some(entry), Ok(index)) = (table.get_mut(place), u32::try_from(index)) {
@@ -112,18 +114,24 @@ impl LeafTable {
             }
         }
         Ok(LeafTable {
-            arities: arities.to_vec(alloc)?,
+            inner,
             paths: table,
         })
     }
 
-    /// Returns the path with this image among the paths of the table.
+    /// Returns the path with this image among the paths of the table, if the leaf is the one with
+    /// this many nodes before it.
     #[inline(always)]
-    fn find<'a>(&self, paths: &'a [LiftedPath], image: &[u32]) -> Option<&'a LiftedPath>
+    fn find<'a>(
+        &self,
+        paths: &'a [LiftedPath],
+        leaf: usize,
+        image: &[u32],
+    ) -> Option<&'a LiftedPath>
         ensures image { IfSome result (λ path. path.now.image.items ≡ image.now) }
         ensures among { IfSome result (λ path. (n : ℕ) × (slice_get paths.now n ≡ Some path.now)) }
     {
-        let index = *self.paths.get(leaf_place(&self.arities, image))?;
+        let index = *self.paths.get(leaf.wrapping_sub(self.inner))?;
         let path = paths.get(index as usize)?;
         let own = path.image.as_slice();
         if own.len() != image.len() {
@@ -138,12 +146,14 @@ impl LeafTable {
     }
 
     /// Writes the address of the leaf with an image to `taken`, and for each node on the path to it,
-    /// the rank at its image's depth. If the table has no path to the leaf, the map is searched.
+    /// the rank at its image's depth. `leaf` is the number of nodes before that leaf in the target,
+    /// level by level. If it is wrong, or the table has no path to the leaf, the map is searched.
     #[inline(always)]
     pub fn pick(
         &self,
         map: &Map,
         paths: &[LiftedPath],
+        leaf: usize,
         digits: &[u32],
         ranks: &[u64],
         taken: &mut Taken,
@@ -157,7 +167,7 @@ impl LeafTable {
         ensures ranks { taken.new.ranks ≡ picked_ranks map.now taken.new.digits ranks.now }
         ensures room { taken.new.room ≡ taken.old.room }
     {
-        let Some(path) = self.find(paths, digits) else {
+        let Some(path) = self.find(paths, leaf, digits) else {
             return pick(map, digits, ranks, taken);
         };
         let address = path.address.as_slice();
@@ -171,17 +181,18 @@ impl LeafTable {
     }
 }
 
-/// Returns how many leaves a target with these arities has.
-fn leaf_count(arities: &[u32]) -> usize {
-    let mut count: usize = 1;
+/// Returns how many inner nodes and how many leaves a target with these arities has.
+fn node_counts(arities: &[u32]) -> (usize, usize) {
+    let mut inner: usize = 0;
+    let mut width: usize = 1;
     for arity in arities {
-        count = count.wrapping_mul(*arity as usize);
+        inner = inner.wrapping_add(width);
+        width = width.wrapping_mul(*arity as usize);
     }
-    count
+    (inner, width)
 }
 
 /// Returns how many leaves of a target are to the left of the leaf with these digits.
-#[inline(always)]
 fn leaf_place(arities: &[u32], digits: &[u32]) -> usize {
     let mut place: usize = 0;
     for (arity, digit) in arities.iter().zip(digits) {

@@ -82,6 +82,10 @@ pub trait Fabric {
         ensures rest { KeptByPop (shape self.old) (shape self.new) (pushed self.old)
             (pushed self.new) (spilled self.old) (spilled self.new) };
 
+    /// Returns the number of nodes before the leaf of the last pop, level by level from the root. It
+    /// is a hint: no clause says that it is right.
+    fn last_leaf(&self) -> usize;
+
     /// Returns the number of pushes so far.
     fn pushes(&self) -> u64
         ensures { result ≡ pushed self.now };

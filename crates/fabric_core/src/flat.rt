@@ -16,6 +16,8 @@ pub struct FlatFabric {
     queues: Vec<HeapPifo>,
     pushed: u64,
     popped: u64,
+    /// The index of the leaf of the last pop.
+    leaf: usize,
 }
 
 impl Model for FlatFabric {
@@ -42,6 +44,7 @@ impl FlatFabric {
             queues: empty_queues(alloc, &[])?,
             pushed: 0,
             popped: 0,
+            leaf: 0,
         })
     }
 }
@@ -83,7 +86,12 @@ impl Fabric for FlatFabric {
     #[inline(always)]
     fn pop(&mut self, digits: &mut [u32], ranks: &mut [u64]) -> Option<u64> {
         self.popped += 1;
-        pop_along(&mut self.queues, &self.shape, digits, ranks)
+        pop_along(&mut self.queues, &self.shape, digits, ranks, &mut self.leaf)
+    }
+
+    #[inline(always)]
+    fn last_leaf(&self) -> usize {
+        self.leaf
     }
 
     fn pushes(&self) -> u64 {

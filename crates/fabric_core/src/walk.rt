@@ -71,14 +71,15 @@ pub fn push_along<Q: NodeQueue>(
     spilled + u64::from(spills)
 }
 
-/// Pops the root's queue, then the queue that each popped digit names, down to an item. Returns
-/// `None` only if the root's queue is empty.
+/// Pops the root's queue, then the queue that each popped digit names, down to an item, and writes
+/// the index of its leaf to `leaf`. Returns `None` only if the root's queue is empty.
 #[inline(always)]
 pub fn pop_along<Q: NodeQueue>(
     queues: &mut [Q],
     shape: &Shape,
     digits: &mut [u32],
     ranks: &mut [u64],
+    leaf: &mut usize,
 ) -> Option<u64>
     requires path { HasPlaces shape.now digits.old ranks.old }
     requires array { HoldsTree shape.now (length queues.old) }
@@ -99,6 +100,7 @@ pub fn pop_along<Q: NodeQueue>(
         digits[level] = digit;
         node = shape.child(node, digit);
     }
+    *leaf = node;
     let (rank, item) = queues[node].pop_pair()?;
     ranks[shape.height()] = rank;
     Some(item)

@@ -139,6 +139,7 @@ impl<'a, F: Fabric> Scheduler for Embedded<'a, F> {
         table.pick(
             map,
             &self.lifted_paths,
+            under.last_leaf(),
             &embedding.digits,
             &embedding.ranks,
             trace,

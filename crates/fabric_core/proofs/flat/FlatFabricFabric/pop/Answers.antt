@@ -5,10 +5,10 @@ use Rattle.fabric_core.specs.Paths.{IsUnchanged}
 use Rattle.fabric_core.proofs.FabricLaws.{Popped, popped_none, popped_taken, popped_stays, popped_kept}
 use Rattle.fabric_core.proofs.flat.FlatFabricFabric.pop.Goals as goal
 
-back : (c : goal.After-slice_known-4-1) → (with_items c.self.inside.queues c.pop_along.new.queues).items ≡ c.pop_along.new.queues
+back : (c : goal.After-self-2-1) → (with_items c.self.inside.queues c.pop_along.new.queues).items ≡ c.pop_along.new.queues
 back c = with_items_is c.self.inside.queues c.pop_along.new.queues (omega (arith, c.pop_along.auto.queues, c.deref_mut.ensures.len))
 
-popped : (c : goal.After-slice_known-4-1)
+popped : (c : goal.After-self-2-1)
     → Popped c.self.inside.shape (entries_of c.self.inside.queues.items) (entries_of (with_items c.self.inside.queues c.pop_along.new.queues).items) c.pop_along.result c.args.digits.now c.pop_along.new.digits c.args.ranks.now c.pop_along.new.ranks
 popped c =
     let f = c.self.inside in
