@@ -56,13 +56,15 @@ const FEWEST: usize = 64;
 /// The `each` variables of the flows that have room, each flow at its index. Captures choose the
 /// flows, so indices are kept in an ordered map: with a hash map and a known seed, a capture could
 /// force each lookup to visit all flows. Most indices are found by a guess, and a guess may be
-/// wrong.
+/// wrong. The first guess is `last`, the index that was found last: a step looks up the flow for
+/// which room was just made.
 #[derive(Drop)]
 pub(crate) struct FlowTable {
     places: BTreeMap<OrderedKey, usize>,
     flows: Vec<FlowKey>,
     pub(crate) numbers: Vec<Vec<u64>>,
     guesses: Vec<u32>,
+    last: usize,
     alloc: Global,
     ghost even: { length numbers.items ≡ length flows.items },
     ghost there: { (f : Known) (i : ℕ) → lookup (has_key f) places.entries ≡ Some i → slice_get flows.items i ≡ Some f } by { Prim.hlevel props },
@@ -81,6 +83,7 @@ impl FlowTable {
             flows: Vec::new(alloc),
             numbers: Vec::new(alloc),
             guesses: Vec::new(alloc),
+            last: 0,
             alloc,
         }
     }
@@ -92,6 +95,11 @@ impl FlowTable {
         ensures place { result ≡ place_of self.new flow.now }
         ensures same { (f : FlowKey) → numbers_of self.new f ≡ numbers_of self.old f }
     {
+        if let Some(known) = self.flows.get(self.last) {
+            if is_same(known, flow) {
+                return Some(self.last);
+            }
+        }
         let ports = (u64::from(flow.sport) << 16) | u64::from(flow.dport);
         let source = u64::try_from(flow.source).unwrap_or(0);
         let target = u64::try_from(flow.target).unwrap_or(0);
@@ -104,6 +112,7 @@ impl FlowTable {
         };
         if let Some(known) = self.flows.get(guess) {
             if is_same(known, flow) {
+                self.last = guess;
                 return Some(guess);
             }
         }
@@ -120,6 +129,7 @@ impl FlowTable {
         match self.places.get(&key_of(&flow)) {
             Some(found) => {
                 let place = *found;
+                self.last = place;
                 if let Some(guess) = self.guesses.get_mut(at) {
                     *guess = u32::try_from(place).unwrap_or(0);
                 }

@@ -153,7 +153,13 @@ fn run_fair(fair: &Fair, env: &Env, keeps: &[u64], eaches: &mut [u64]) -> u64
 {
     let each = fair.each as usize;
     let rank = keeps[fair.keep as usize].max(eaches[each]).min(MAX_RANK);
-    let service = u64::from(env.len) * u64::from(fair.scale) / u64::from(env.weight);
+    let scaled = u64::from(env.len) * u64::from(fair.scale);
+    // Most weights are 1, and a division takes longer than the comparison.
+    let service = if env.weight == 1 {
+        scaled
+    } else {
+        scaled / u64::from(env.weight)
+    };
     eaches[each] = rank
         .saturating_add(service)
         .clamp(fair.span.low, fair.span.high);
